@@ -1,0 +1,12 @@
+pub mod Census
+pub mod Classes
+pub mod Faults
+pub mod Lexemes
+pub mod Limits
+pub mod Messages
+pub mod OpenForms
+pub mod Positions
+pub mod Readers
+pub mod Reading
+pub mod Theorems
+pub mod Tokens

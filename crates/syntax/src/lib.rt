@@ -1,0 +1,45 @@
+// What a text is: byte classes, tokens, the reader with its faults, positions.
+// The modules are public for the impls that they derive; the names that callers use are all here.
+pub mod census;
+pub mod class;
+pub mod fault;
+pub mod kind;
+pub mod lexeme;
+pub mod limits;
+pub mod message;
+mod open_forms;
+pub mod position;
+pub mod reader;
+pub mod theorems;
+
+pub use census::Census;
+pub use census::take_census;
+pub use class::Class;
+pub use class::class_of;
+pub use fault::BracketFault;
+pub use fault::BracketFaultKind;
+pub use fault::Layer;
+pub use fault::ReadFault;
+pub use fault::ReadFaultFromBracket;
+pub use fault::ReadFaultFromToken;
+pub use fault::TokenFault;
+pub use fault::TokenFaultKind;
+pub use kind::Kind;
+pub use lexeme::Lexeme;
+pub use lexeme::LexemeKind;
+pub use lexeme::lexeme_at;
+pub use limits::NESTING_LIMIT;
+pub use limits::TEXT_LIMIT;
+pub use limits::TOKEN_LIMIT;
+pub use message::BracketFaultKindDisplay;
+pub use message::KindDisplay;
+pub use message::LayerDisplay;
+pub use message::PositionDisplay;
+pub use message::ReadFaultDisplay;
+pub use message::TokenFaultKindDisplay;
+pub use position::Position;
+pub use position::count_lines;
+pub use position::locate;
+pub use reader::Reader;
+pub use theorems::pieces_joined_are_the_text;
+pub use theorems::short_texts_hold_what_they_should;
