@@ -1,9 +1,11 @@
 // Checks delivered files: says what each holds, or where its first fault is.
 mod input;
+mod outline;
 mod report;
 
 use input::read_file;
 use input::read_stdin;
+use outline::outline;
 use report::Report;
 use report::inspect_text;
 use report::unreadable;
@@ -12,15 +14,20 @@ use std::error::AnyError;
 use std::io;
 
 fn main(rt: LibcRuntime) -> Result<(), AnyError> {
-    let mut well_formed = true;
+    let mut with_tree = false;
     let mut named = false;
-    for name in env::args(&rt)?.skip(1) {
-        named = true;
-        let name = name.as_str();
-        well_formed &= inspect(&rt, name, read_file(&rt, name))?;
+    let mut well_formed = true;
+    for argument in env::args(&rt)?.skip(1) {
+        let name = argument.as_str();
+        if name == "--tree" {
+            with_tree = true;
+        } else {
+            named = true;
+            well_formed &= inspect(&rt, name, read_file(&rt, name), with_tree)?;
+        }
     }
     if !named {
-        well_formed = inspect(&rt, "<stdin>", read_stdin(&rt))?;
+        well_formed = inspect(&rt, "<stdin>", read_stdin(&rt), with_tree)?;
     }
     if well_formed {
         Ok(())
@@ -29,13 +36,28 @@ fn main(rt: LibcRuntime) -> Result<(), AnyError> {
     }
 }
 
-// Prints the report on one file, and says whether the file is well formed.
-fn inspect(rt: &LibcRuntime, name: &str, bytes: io::Result<Vec<u8>>) -> Result<bool, AnyError> {
-    let report = match bytes {
-        Ok(text) => inspect_text(rt.alloc(), name, text.as_slice())?,
-        Err(error) => unreadable(rt.alloc(), name, error)?,
+// Prints the report on one file, and its outline where that is wanted, and says whether the file is well formed.
+fn inspect(
+    rt: &LibcRuntime,
+    name: &str,
+    bytes: io::Result<Vec<u8>>,
+    with_tree: bool,
+) -> Result<bool, AnyError> {
+    let text = match bytes {
+        Ok(text) => text,
+        Err(error) => {
+            let Report { line, .. } = unreadable(rt.alloc(), name, error)?;
+            rt.println(line)?;
+            return Ok(false);
+        }
     };
-    let Report { line, well_formed } = report;
+    let Report { line, well_formed } = inspect_text(rt.alloc(), name, text.as_slice())?;
     rt.println(line)?;
+    if with_tree && well_formed {
+        match outline(rt.alloc(), text.as_slice()) {
+            Ok(lines) => rt.print(lines)?,
+            Err(_) => return Err("memory is short".into()),
+        }
+    }
     Ok(well_formed)
 }

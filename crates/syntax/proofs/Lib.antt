@@ -3,6 +3,7 @@ pub mod Joining
 pub mod Lexing
 pub mod Lines
 pub mod Longest
+pub mod Onward
 pub mod Stacks
 pub mod Walking
 pub mod Within

@@ -11,6 +11,7 @@ use Rattle.std.specs.declared.option.Option.{Option}
 use Rattle.std.specs.declared.option.Option.the-variants.{Some, None}
 use Rattle.std.specs.declared.result.Result.{Result}
 use Rattle.std.specs.declared.result.Result.the-variants.{Ok, Err}
+use Rattle.std.proofs.shelf.Tests.{ltb-true}
 use Rattle.syntax.specs.Census.{depth-after}
 use Rattle.syntax.specs.Lexemes.{lexeme, Longest, Found, some, lexeme-at}
 use Rattle.syntax.specs.Limits.{nesting-limit}
@@ -152,6 +153,17 @@ length-opened os p Open now h = by (ltb (length os) nesting-limit) h
 length-opened [] p Close now h = absurd (let z : _≡_ {A = ℕ} 0 1 = cc in omega arith)
 length-opened (o ∷ os) p Close now h = let e : os ≡ now = cc in omega (arith, ap length e)
 length-opened os p (Token k) now h = let e : os ≡ now = cc in sym (ap length e)
+
+-- never more than the limit allows
+pub opened-shallow : (os : List ℕ) (p : ℕ) (k : LexemeKind) (now : List ℕ) → length os ≤ nesting-limit → opened os p k ≡ Ok now → length now ≤ nesting-limit
+opened-shallow os p Open now fits h = by (ltb (length os) nesting-limit) refl h
+  where
+    by : (t : Bool) → ltb (length os) nesting-limit ≡ t → cond {A = Result (List ℕ) BracketFault} t (Ok (p ∷ os)) (Err (record { kind = TooDeep; place = p })) ≡ Ok now → length now ≤ nesting-limit
+    by true e h = let q : p ∷ os ≡ now = cc in omega (arith, ltb-true (length os) nesting-limit e, ap length q)
+    by false e h = absurd (let z : _≡_ {A = ℕ} 0 1 = cc in omega arith)
+opened-shallow [] p Close now fits h = absurd (let z : _≡_ {A = ℕ} 0 1 = cc in omega arith)
+opened-shallow (o ∷ os) p Close now fits h = let q : os ≡ now = cc in omega (arith, ap length q)
+opened-shallow os p (Token k) now fits h = let q : os ≡ now = cc in omega (arith, ap length q)
 
 -- what a reader met, from what it answered
 pub met-some : (x : Result (Option Step) ReadFault) (before after : Reader) (r : Result (Option Lexeme) ReadFault) (l : Lexeme) → Next x before r after → r ≡ Ok (Some l) → (s : Step) × (x ≡ Ok (Some s)) × (s .lexeme ≡ l) × Goes s before after

@@ -1,6 +1,7 @@
 -- The words in which kinds and faults are told to people. Assumes nothing.
 --
 -- kind-words k            what a token of kind k is called
+-- item-words i            the same of an item
 -- token-fault-words k     what is wrong with a token
 -- bracket-fault-words k   what is wrong with the brackets
 -- layer-words l           what a fault of the layer l is called
@@ -20,6 +21,8 @@ use Rattle.syntax.specs.declared.fault.ReadFault.{ReadFault}
 use Rattle.syntax.specs.declared.fault.ReadFault.the-variants as R
 use Rattle.syntax.specs.declared.fault.TokenFaultKind.{TokenFaultKind}
 use Rattle.syntax.specs.declared.fault.TokenFaultKind.the-variants.{ForeignByte, Unfinished, TooLong}
+use Rattle.syntax.specs.declared.kind.ItemKind.{ItemKind}
+use Rattle.syntax.specs.declared.kind.ItemKind.the-variants as I
 use Rattle.syntax.specs.declared.kind.Kind.{Kind}
 use Rattle.syntax.specs.declared.kind.Kind.the-variants as K
 use Rattle.syntax.specs.declared.position.Position.{Position}
@@ -30,6 +33,10 @@ kind-words K.Blank = codes "blank"
 kind-words K.Word = codes "word"
 kind-words K.Quoted = codes "quoted text"
 kind-words K.Comment = codes "comment"
+
+abbrev pub item-words : ItemKind → List ℕ
+item-words (I.Token k) = kind-words k
+item-words I.Form = codes "form"
 
 abbrev pub token-fault-words : TokenFaultKind → List ℕ
 token-fault-words ForeignByte = codes "byte is not allowed in a text"

@@ -3,17 +3,19 @@
 -- text-of r           the whole text
 -- place-of r          the number of bytes that were read
 -- opens-of r          the places of the open bytes of the forms that are open, the newest first
+-- left r              the pieces that the reader has before it, or the fault
 -- next os p bs        what a reader meets at place p, before bs, where the forms of os are open
 -- Next s before r after   a reader that met s answered r, and is as `after` says
 use mathlib.Core.Path.{_≡_}
 use mathlib.Core.List.{List, [], _∷_}
 use Prim.Native.Nat.{ℕ, _+_}
+use lib.ListN.{drop}
 use Rattle.std.specs.declared.option.Option.{Option}
 use Rattle.std.specs.declared.option.Option.the-variants.{Some, None}
 use Rattle.std.specs.declared.result.Result.{Result}
 use Rattle.std.specs.declared.result.Result.the-variants.{Ok, Err}
 use Rattle.syntax.specs.OpenForms.{open-places}
-use Rattle.syntax.specs.Reading.{Step, then, raised, step, unclosed}
+use Rattle.syntax.specs.Reading.{Piece, Step, then, raised, step, unclosed, pieces}
 use Rattle.syntax.specs.declared.fault.ReadFault.{ReadFault}
 use Rattle.syntax.specs.declared.fault.ReadFault.the-variants as R
 use Rattle.syntax.specs.declared.lexeme.Lexeme.{Lexeme}
@@ -27,6 +29,9 @@ place-of r = r .at
 
 abbrev pub opens-of : Reader → List ℕ
 opens-of r = open-places (r .opens)
+
+abbrev pub left : Reader → Result (List Piece) ReadFault
+left r = pieces (opens-of r) (place-of r) 0 (drop (place-of r) (text-of r))
 
 abbrev pub next : List ℕ → ℕ → List ℕ → Result (Option Step) ReadFault
 next os p [] = raised R.Bracket (unclosed None os)

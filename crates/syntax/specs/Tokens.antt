@@ -1,6 +1,7 @@
 -- The kinds of token, and which bytes each may hold. Assumes nothing.
 --
 -- number-of k           the number by which formats name the kind k
+-- item-number i         the same of an item: a token's own, 6 for a form
 -- is c d                the classes c and d are the same
 -- continues-class k c   a byte of class c goes on with a token of kind k
 -- closes-class k c      a byte of class c is the last of an opened token of kind k
@@ -17,6 +18,8 @@ use Rattle.std.specs.shelf.Lists.{All}
 use Rattle.syntax.specs.Classes.{class}
 use Rattle.syntax.specs.declared.class.Class.{Class}
 use Rattle.syntax.specs.declared.class.Class.the-variants as C
+use Rattle.syntax.specs.declared.kind.ItemKind.{ItemKind}
+use Rattle.syntax.specs.declared.kind.ItemKind.the-variants as I
 use Rattle.syntax.specs.declared.kind.Kind.{Kind}
 use Rattle.syntax.specs.declared.kind.Kind.the-variants as K
 
@@ -26,6 +29,10 @@ number-of K.Blank = 2
 number-of K.Word = 3
 number-of K.Quoted = 4
 number-of K.Comment = 5
+
+abbrev pub item-number : ItemKind → ℕ
+item-number (I.Token k) = number-of k
+item-number I.Form = 6
 
 -- classes are told apart by a number
 abbrev pub code : Class → ℕ

@@ -6,6 +6,9 @@ ghost use Rattle.std.specs.Vec.{refused};
 ghost use Rattle.syntax.specs.Faults.{place-of};
 ghost use Rattle.syntax.specs.Census.{nothing, counted, Room, census};
 use crate::fault::ReadFault;
+use crate::kind::ItemKind;
+use crate::kind::ItemKindDebug;
+use crate::kind::ItemKindPartialEq;
 use crate::kind::Kind;
 use crate::lexeme::LexemeKind;
 use crate::reader::Reader;
@@ -26,6 +29,9 @@ pub struct Census {
     pub items: usize,
     /// Tokens and forms outside any form.
     pub top_items: usize,
+    /// The kinds of the first and the last of these.
+    pub first: Option<ItemKind>,
+    pub last: Option<ItemKind>,
     /// The most forms that are open at once.
     pub nesting: usize,
 }
@@ -45,6 +51,8 @@ impl Census {
             forms: 0,
             items: 0,
             top_items: 0,
+            first: None,
+            last: None,
             nesting: 0,
         }
     }
@@ -55,10 +63,11 @@ impl Census {
         requires shallow { ⌜ depth + 1 < 2 ^ 64 ⌝ }
         ensures { λ _. ⌜ now (self .exit) ≡ counted (now (self .entry)) kind depth ⌝ }
     {
-        match kind {
+        let item = match kind {
             LexemeKind::Open => {
                 self.forms += 1;
                 self.nesting = self.nesting.max(depth + 1);
+                ItemKind::Form
             }
             LexemeKind::Close => return,
             LexemeKind::Token(token) => {
@@ -70,11 +79,14 @@ impl Census {
                     Kind::Quoted => self.quoted += 1,
                     Kind::Comment => self.comments += 1,
                 }
+                ItemKind::Token(token)
             }
-        }
+        };
         self.items += 1;
         if depth == 0 {
             self.top_items += 1;
+            self.first = self.first.or(Some(item));
+            self.last = Some(item);
         }
     }
 }

@@ -1,6 +1,6 @@
-// The kinds of token, and which bytes each may hold.
+// The kinds of token and of item, and which bytes a token of each kind may hold.
 ghost use mathlib.Core.Path.{_≡_};
-ghost use Rattle.syntax.specs.Tokens.{number-of, continues-class, closes-class};
+ghost use Rattle.syntax.specs.Tokens.{number-of, item-number, continues-class, closes-class};
 use crate::class::Class;
 
 /// What a token is.
@@ -48,6 +48,25 @@ impl Kind {
             Kind::Quoted => matches!(class, Class::Quote),
             Kind::Comment => matches!(class, Class::LineEnd),
             Kind::LineEnd | Kind::Blank | Kind::Word => false,
+        }
+    }
+}
+
+/// What an item is.
+#[derive(Clone, Copy, PartialEq, Eq, Debug)]
+pub enum ItemKind {
+    Token(Kind),
+    Form,
+}
+
+impl ItemKind {
+    /// The number by which formats name the kind: a token's own, or 6.
+    pub fn number(self) -> u8
+        ensures { λ r. ⌜ r ≡ item-number self ⌝ }
+    {
+        match self {
+            ItemKind::Token(kind) => kind.number(),
+            ItemKind::Form => 6,
         }
     }
 }

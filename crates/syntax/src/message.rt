@@ -1,11 +1,12 @@
 // The words in which kinds and faults are told to people.
 ghost use mathlib.Core.Path.{_≡_};
 ghost use Rattle.std.specs.declared.option.Option.the-variants.{Some};
-ghost use Rattle.syntax.specs.Messages.{kind-words, token-fault-words, bracket-fault-words, layer-words, fault-words, position-words};
+ghost use Rattle.syntax.specs.Messages.{kind-words, item-words, token-fault-words, bracket-fault-words, layer-words, fault-words, position-words};
 use crate::fault::BracketFaultKind;
 use crate::fault::Layer;
 use crate::fault::ReadFault;
 use crate::fault::TokenFaultKind;
+use crate::kind::ItemKind;
 use crate::kind::Kind;
 use crate::position::Position;
 use std::fmt;
@@ -30,6 +31,17 @@ pub impl fmt::Display for Kind as KindDisplay {
 
     fn fmt<W: fmt::Write>(&self, f: &mut fmt::Formatter<W>) -> fmt::Result {
         f.write_str(self.words())
+    }
+}
+
+pub impl fmt::Display for ItemKind as ItemKindDisplay {
+    ghost shown = { λ i. Some (item-words i) };
+
+    fn fmt<W: fmt::Write>(&self, f: &mut fmt::Formatter<W>) -> fmt::Result {
+        match self {
+            ItemKind::Token(kind) => kind.fmt(f),
+            ItemKind::Form => f.write_str("form"),
+        }
     }
 }
 

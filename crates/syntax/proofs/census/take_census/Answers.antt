@@ -11,11 +11,11 @@ use Rattle.std.specs.declared.result.Result.the-variants.{Ok, Err}
 use Rattle.std.proofs.shelf.Results.{err-from-errBy}
 use Rattle.syntax.specs.Census.{counted, census}
 use Rattle.syntax.specs.Faults.{place-of}
-use Rattle.syntax.specs.Readers.{place-of as read, opens-of}
 use Rattle.syntax.specs.declared.census.Census.{Census}
 use Rattle.syntax.specs.declared.fault.ReadFault.{ReadFault}
 use Rattle.syntax.proofs.Counting.{Sofar, sofar-none, sofar-fault, sofar-end, sofar-more, sofar-room}
 use Rattle.syntax.proofs.Within.{census-within}
+use Rattle.syntax.proofs.Onward.{Onward, onward, onward-less, left-end, left-fault}
 use Rattle.syntax.proofs.Stacks.{length-newest}
 use Rattle.syntax.proofs.census.take_census.Needs as need
 use Rattle.syntax.proofs.census.take_census.Needs.{In-Some}
@@ -35,22 +35,25 @@ both text r e = record { value = e; within = by r e }
 pub returns-in-Break-lexeme : need.returns-in-Break-lexeme
 returns-in-Break-lexeme c =
     let p = err-from-errBy (c .from-residual .result) (c .from-residual .ensures .1) in
-    both (c .args .text .now) _ (p .1 ∙ ap Err (p .2) ∙ sofar-fault (c .loop-lexeme .inv) (c .next .result) (c .next .last .self) _ (c .next .ensures) (c .in-Break-lexeme .was tt))
+    let fault = left-fault (c .loop-lexeme .reader) (c .next .last .self) (c .next .result) _ (c .next .ensures) (c .in-Break-lexeme .was tt) in
+    both (c .args .text .now) _ (p .1 ∙ ap Err (p .2) ∙ sofar-fault (c .loop-lexeme .inv) _ fault)
 
 pub returns-in-rest : need.returns-in-rest
 returns-in-rest c =
-    both (c .args .text .now) _ (sofar-end (c .loop-lexeme .inv) (c .next .result) (c .next .last .self) (c .next .ensures) (c .in-Continue-lexeme .was tt ∙ ap Ok (c .in-rest .is)))
+    both (c .args .text .now) _
+    (sofar-end (c .loop-lexeme .inv) (left-end (c .loop-lexeme .reader) (c .next .last .self) (c .next .result) (c .next .ensures) (c .in-Continue-lexeme .was tt ∙ ap Ok (c .in-rest .is))))
 
--- where the reader is after a lexeme, and the census with it
-onward : (c : In-Some) → (read (c .loop-lexeme .reader) < read (c .next .last .self)) × Sofar (c .args .text .now) (c .next .last .self) (counted (c .loop-lexeme .census) (c .in-Some .lexeme .kind) (length (opens-of (c .loop-lexeme .reader))))
-onward c =
-    sofar-more (c .loop-lexeme .inv) (c .next .result) (c .next .last .self) (c .in-Some .lexeme) (c .next .ensures) (c .in-Continue-lexeme .was tt ∙ ap Ok (c .in-Some .is))
+-- where the reader is after a lexeme
+on : (c : In-Some) → Onward (c .loop-lexeme .reader) (c .next .last .self) (c .in-Some .lexeme)
+on c = onward (c .loop-lexeme .reader) (c .next .last .self) (c .next .result) (c .in-Some .lexeme) (c .next .ensures) (c .in-Continue-lexeme .was tt ∙ ap Ok (c .in-Some .is))
 
 pub count-requires : need.count-requires
 count-requires c κs =
-    let on = onward (need.at·count-requires c .In-Some) in
-    let further = on .0 in
-    let within = on .1 .place in
+    let o = on (need.at·count-requires c .In-Some) in
+    let moved = o .place in
+    let some = o .some in
+    let within = o .within in
+    let same = ap length (c .loop-lexeme .inv .same) in
     let fits : length (c .args .text .now) < 2 ^ 64 = search needs in
     let shallow = c .loop-lexeme .reader .opens .within in
     let depth = c .depth-depth .ensures ∙ length-newest (c .loop-lexeme .reader .opens .places) (c .loop-lexeme .reader .opens .depth) in
@@ -60,13 +63,9 @@ count-requires c κs =
     }
 
 pub loop-lexeme-less : need.loop-lexeme-less
-loop-lexeme-less c =
-    let on = onward (need.at·loop-lexeme-less c .In-Some) in
-    let further = on .0 in
-    let within = on .1 .place in
-    omega arith
+loop-lexeme-less c = onward-less (c .args .text .now) (c .loop-lexeme .reader) (c .next .last .self) (c .in-Some .lexeme) (c .loop-lexeme .inv .same) (on (need.at·loop-lexeme-less c .In-Some)) .1
 
 pub loop-lexeme-again : need.loop-lexeme-again
 loop-lexeme-again c =
     subst (Sofar (c .args .text .now) (c .next .last .self)) (sym (c .count .ensures ∙ ap (counted (c .loop-lexeme .census) (c .in-Some .lexeme .kind)) (c .depth-depth .ensures)))
-    (onward (need.at·loop-lexeme-again c .In-Some) .1)
+    (sofar-more (c .loop-lexeme .inv) (c .next .last .self) (c .in-Some .lexeme) (on (need.at·loop-lexeme-again c .In-Some)))

@@ -1,0 +1,4 @@
+pub mod Appends
+pub mod Closing
+pub mod Indents
+pub mod Listing
