@@ -1,0 +1,4 @@
+pub mod Allocations
+pub mod Bitmaps
+pub mod Laws
+pub mod Stacks
