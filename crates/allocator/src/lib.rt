@@ -1,4 +1,6 @@
 // Where cell numbers come from: allocators by their meaning, and two of them.
+#![tactic(auto)]
+
 pub mod allocator;
 mod bitmap;
 pub mod free_stack;

@@ -1,4 +1,6 @@
 // Trees of counted cells: built, shared, let go and walked.
+#![tactic(auto)]
+
 pub mod cells;
 mod compare;
 pub mod forest;

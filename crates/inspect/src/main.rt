@@ -1,4 +1,6 @@
 // Checks delivered files: says what each holds, or where its first fault is.
+#![tactic(auto)]
+
 mod input;
 mod outline;
 mod report;

@@ -1,4 +1,6 @@
 // Numbers and pieces of lines, as bytes that are read and put.
+#![tactic(auto)]
+
 mod line;
 mod numbers;
 

@@ -1,4 +1,6 @@
 // One pool of counted cells, written once for every kind of cell.
+#![tactic(auto)]
+
 pub mod cell;
 pub mod counted;
 pub mod laws;

@@ -1,4 +1,6 @@
 // Commands, answers and refusals of the store, and the language of scripts.
+#![tactic(auto)]
+
 pub mod answer;
 pub mod command;
 pub mod laws;

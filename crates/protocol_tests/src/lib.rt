@@ -1,4 +1,6 @@
 // Lines of scripts and answers, at every edge of the rules.
+#![tactic(auto)]
+
 #[cfg(test)]
 mod answers;
 #[cfg(test)]

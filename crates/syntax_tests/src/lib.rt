@@ -1,4 +1,6 @@
 // Tables of texts at every edge of the rules.
+#![tactic(auto)]
+
 #[cfg(test)]
 mod census;
 #[cfg(test)]
