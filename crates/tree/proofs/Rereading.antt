@@ -1,4 +1,4 @@
--- A well_formed tree's print is accepted, and read as that tree. Assumes nothing.
+-- A well-formed tree's print is accepted, and read as that tree. Assumes nothing.
 use Rattle.std.proofs.Common.{◌≡◌, ℕ, zero, suc, ◌+◌, ◌<◌, ◌≤◌, max, Bool, true, false, cond, ltb, leb, List, [], ◌∷◌, ◌++◌, length, take, drop, Some, None, Ok, Err, Option, Result, sym, refl, ap, ◌∙◌, subst, append_assoc, append-nil, add_assoc, one-add, arith}
 use Rattle.std.specs.List.{prefix_len, AllByRecursion as All}
 use Rattle.std.proofs.ByRecursion.{All-weaker}

@@ -14,15 +14,15 @@ use Rattle.tree.specs.WellFormed.{nesting, WellFormed, first_clash}
 abbrev pub AcceptedTextPrintsAsItself : Type 0
 AcceptedTextPrintsAsItself = (text : List ℕ) (t : Tree) → tree_read text ≡ Ok t → WellFormed t × (printed t ≡ text)
 
--- a well_formed tree's print is accepted, and read as that tree
+-- a well-formed tree's print is accepted, and read as that tree
 abbrev pub PrintedTreeReadsAsItself : Type 0
 PrintedTreeReadsAsItself = (t : Tree) → WellFormed t → tree_read (printed t) ≡ Ok t
 
--- well_formed trees that print alike are the same
+-- well-formed trees that print alike are the same
 abbrev pub EqualPrintsHaveEqualTrees : Type 0
 EqualPrintsHaveEqualTrees = (t u : Tree) → WellFormed t → WellFormed u → printed t ≡ printed u → t ≡ u
 
--- a text that has a fault is the print of no well_formed tree
+-- a text that has a fault is the print of no well-formed tree
 abbrev pub FaultyTextIsNoPrint : Type 0
 FaultyTextIsNoPrint = (text : List ℕ) (f : ReadFault) → tree_read text ≡ Err f → (t : Tree) → WellFormed t → printed t ≢ text
 

@@ -9,28 +9,28 @@ use Rattle.inspect.proofs.outline.form_end.Goals.{In-Some}
 pub loop-reader-init : goal.loop-reader-init
 loop-reader-init c = going_start c.args.reader c.depth-inside.result c.depth-inside.ensures
 
-pub returns-in-err--lexeme : goal.returns-in-err--lexeme
-returns-in-err--lexeme c =
-    let p = err_from_is_err_and c.from-residual.result c.from-residual.ensures.1 in
-    let f = c.in-err--lexeme.field-0.0 in
-    let fault = going_fault c.args.reader c.loop-reader.reader c.depth-inside.result f c.loop-reader.invariant (left_fault c.loop-reader.reader c.next.new.self c.next.result f c.next.ensures c.in-err--lexeme.was) in
-    refused_end c.args.reader c.from-residual.result f (p.1 ∙ ap Err p.2) fault
+pub returns-in_err-_lexeme : goal.returns-in_err-_lexeme
+returns-in_err-_lexeme c =
+    let p = err_from_is_err_and c.from_residual.result c.from_residual.ensures.1 in
+    let f = c.in_err-_lexeme.field-0.0 in
+    let fault = going_fault c.args.reader c.loop-reader.reader c.depth-inside.result f c.loop-reader.invariant (left_fault c.loop-reader.reader c.next.new.self c.next.result f c.next.ensures c.in_err-_lexeme.was) in
+    refused_end c.args.reader c.from_residual.result f (p.1 ∙ ap Err p.2) fault
 
 -- where the reader is after a lexeme
-on : (c : In-Some) → Onward c.loop-reader.reader c.next.new.self c.in-Some.-lexeme
-on c = onward c.loop-reader.reader c.next.new.self c.next.result c.in-Some.-lexeme c.next.ensures (c.in-ok--lexeme.was ∙ ap Ok c.in-Some.is)
+on : (c : In-Some) → Onward c.loop-reader.reader c.next.new.self c.in-Some._lexeme
+on c = onward c.loop-reader.reader c.next.new.self c.next.result c.in-Some._lexeme c.next.ensures (c.in_ok-_lexeme.was ∙ ap Ok c.in-Some.is)
 
 pub loop-reader-smaller : goal.loop-reader-smaller
-loop-reader-smaller c = (onward_less (text_of c.args.reader) c.loop-reader.reader c.next.new.self c.in-Some.-lexeme c.loop-reader.invariant.same (on c)).1
+loop-reader-smaller c = (onward_less (text_of c.args.reader) c.loop-reader.reader c.next.new.self c.in-Some._lexeme c.loop-reader.invariant.same (on c)).1
 
 pub loop-reader-preserved : goal.loop-reader-preserved
 loop-reader-preserved c =
-    going_more c.args.reader c.loop-reader.reader c.next.new.self c.depth-inside.result c.in-Some.-lexeme c.loop-reader.invariant
+    going_more c.args.reader c.loop-reader.reader c.next.new.self c.depth-inside.result c.in-Some._lexeme c.loop-reader.invariant
     (omega (arith, c.depth.ensures, c.loop-reader-test.true)) (on c)
 
-pub returns-in-default : goal.returns-in-default
-returns-in-default c =
-    let none = c.in-ok--lexeme.was ∙ ap Ok c.in-default.is in
+pub returns-in_default : goal.returns-in_default
+returns-in_default c =
+    let none = c.in_ok-_lexeme.was ∙ ap Ok c.in_default.is in
     let stays = c.place.ensures ∙ end_stays c.loop-reader.reader c.next.new.self c.next.result c.next.ensures none in
     let end = left_end c.loop-reader.reader c.next.new.self c.next.result c.next.ensures none in
     let back = c.loop-reader.invariant.after in

@@ -8,7 +8,7 @@ loop-byte-preserved c =
     let bytes = c.args.bytes.now in
     let i = c.loop-byte.byte-index in
     let before = string_bytes c.args.out.now in
-    c.in-ok-push-byte.ensures
+    c.in_ok-push_byte.ensures
     ∙ ap (λ xs. xs ++ shown_byte (get_or bytes i 0)) c.loop-byte.invariant
     ∙ flat_map_more shown_byte before (take i bytes) (get_or bytes i 0)
     ∙ ap (λ xs. before ++ shown xs) (sym (take_more bytes i 0 c.loop-byte-test.true))

@@ -6,5 +6,5 @@ use Rattle.inspect.proofs.outline.push_form.Goals as goal
 
 pub returns : goal.returns
 returns c =
-    appended c.push-str.result _ _ _ _ c.push-str.ensures.bytes
-    (two_more (string_bytes c.args.out.now) (head c.args.depth I.Form c.args.place c.args.len) (codes "\n") (string_bytes c.push-head.new.out) c.in-ok-push-head.ensures)
+    appended c.push_str.result _ _ _ _ c.push_str.ensures.bytes
+    (two_more (string_bytes c.args.out.now) (head c.args.depth I.Form c.args.place c.args.len) (codes "\n") (string_bytes c.push_head.new.out) c.in_ok-push_head.ensures)

@@ -7,9 +7,9 @@ use Rattle.inspect.proofs.outline.push_token.Goals as goal
 
 pub returns : goal.returns
 returns c =
-    appended c.push-str-2.result _ _ _ _ c.push-str-2.ensures.bytes
+    appended c.push_str-2.result _ _ _ _ c.push_str-2.ensures.bytes
     (four_more (string_bytes c.args.out.now) (head c.args.depth (I.Token c.args.kind) c.args.place (length c.args.bytes.now)) (codes " \"") (shown c.args.bytes.now) (codes "\"\n")
-    (string_bytes c.push-head.new.out) (string_bytes c.push-str.new.self) (string_bytes c.push-bytes.new.out)
-    c.in-ok-push-head.ensures
-    (chosen _ _ _ _ c.push-str.ensures.bytes (ap is_ok c.in-ok-push-str.was))
-    c.in-ok-push-bytes.ensures)
+    (string_bytes c.push_head.new.out) (string_bytes c.push_str.new.self) (string_bytes c.push_bytes.new.out)
+    c.in_ok-push_head.ensures
+    (chosen _ _ _ _ c.push_str.ensures.bytes (ap is_ok c.in_ok-push_str.was))
+    c.in_ok-push_bytes.ensures)

@@ -23,20 +23,20 @@ both text r e = record { value = e; within = by r e }
     by (Ok c) e = tt
     by (Err f) e = census_within text f (sym e)
 
-pub returns-in-err-lexeme : goal.returns-in-err-lexeme
-returns-in-err-lexeme c =
-    let p = err_from_is_err_and c.from-residual.result c.from-residual.ensures.1 in
-    let fault = left_fault c.loop-lexeme.reader c.next.new.self c.next.result _ c.next.ensures c.in-err-lexeme.was in
+pub returns-in_err-lexeme : goal.returns-in_err-lexeme
+returns-in_err-lexeme c =
+    let p = err_from_is_err_and c.from_residual.result c.from_residual.ensures.1 in
+    let fault = left_fault c.loop-lexeme.reader c.next.new.self c.next.result _ c.next.ensures c.in_err-lexeme.was in
     both c.args.text.now _ (p.1 ∙ ap Err p.2 ∙ sofar_fault c.loop-lexeme.invariant _ fault)
 
-pub returns-in-default : goal.returns-in-default
-returns-in-default c =
+pub returns-in_default : goal.returns-in_default
+returns-in_default c =
     both c.args.text.now _
-    (sofar_end c.loop-lexeme.invariant (left_end c.loop-lexeme.reader c.next.new.self c.next.result c.next.ensures (c.in-ok-lexeme.was ∙ ap Ok c.in-default.is)))
+    (sofar_end c.loop-lexeme.invariant (left_end c.loop-lexeme.reader c.next.new.self c.next.result c.next.ensures (c.in_ok-lexeme.was ∙ ap Ok c.in_default.is)))
 
 -- where the reader is after a lexeme
 on : (c : In-Some) → Onward c.loop-lexeme.reader c.next.new.self c.in-Some.lexeme
-on c = onward c.loop-lexeme.reader c.next.new.self c.next.result c.in-Some.lexeme c.next.ensures (c.in-ok-lexeme.was ∙ ap Ok c.in-Some.is)
+on c = onward c.loop-lexeme.reader c.next.new.self c.next.result c.in-Some.lexeme c.next.ensures (c.in_ok-lexeme.was ∙ ap Ok c.in-Some.is)
 
 pub count-requires : goal.count-requires
 count-requires c =

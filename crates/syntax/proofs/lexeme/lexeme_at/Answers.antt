@@ -15,17 +15,17 @@ both p bs r e = record { value = e; longest = subst (λ x. Found p x bs) (sym e)
 pub returns-then-at-text : goal.returns-then-at-text
 returns-then-at-text c = both _ _ _ (sym (at_drop_all (lexeme_at c.args.at) c.args.text.now c.args.at c.if-at-text.true))
 
-pub returns-in-err-lexeme : goal.returns-in-err-lexeme
-returns-in-err-lexeme c =
-    let p = err_from_is_err_and c.from-residual.result c.from-residual.ensures.1 in
+pub returns-in_err-lexeme : goal.returns-in_err-lexeme
+returns-in_err-lexeme c =
+    let p = err_from_is_err_and c.from_residual.result c.from_residual.ensures.1 in
     both _ _ _ (
-    p.1 ∙ ap Err p.2 ∙ ap some (sym c.in-err-lexeme.was)
-    ∙ lexeme_within c.args.at c.args.text.now _ _ c.if-at-text.false c.class-of.ensures c.lexeme_by.ensures
+    p.1 ∙ ap Err p.2 ∙ ap some (sym c.in_err-lexeme.was)
+    ∙ lexeme_within c.args.at c.args.text.now _ _ c.if-at-text.false c.class_of.ensures c.lexeme_by.ensures
     )
 
 pub returns : goal.returns
 returns c =
     both _ _ _ (
-    ap some (sym c.in-ok-lexeme.was)
-    ∙ lexeme_within c.args.at c.args.text.now _ _ c.if-at-text.false c.class-of.ensures c.lexeme_by.ensures
+    ap some (sym c.in_ok-lexeme.was)
+    ∙ lexeme_within c.args.at c.args.text.now _ _ c.if-at-text.false c.class_of.ensures c.lexeme_by.ensures
     )

@@ -2,8 +2,8 @@ use Rattle.std.proofs.Common.{sym, rules}
 use Rattle.syntax.proofs.Stacks.{length-newest, newest_push, newest_pop}
 use Rattle.syntax.proofs.open_forms.OpenForms.enter.Goals as goal
 
-pub returns-else-self-ge-NESTING-LIMIT : goal.returns-else-self-ge-NESTING-LIMIT
-returns-else-self-ge-NESTING-LIMIT c = search (rules, length-newest, newest_push)
+pub returns-else-self-ge-NESTING_LIMIT : goal.returns-else-self-ge-NESTING_LIMIT
+returns-else-self-ge-NESTING_LIMIT c = search (rules, length-newest, newest_push)
 
 pub returns-else-self-eq0 : goal.returns-else-self-eq0
 returns-else-self-eq0 c = search (rules, newest_pop)
