@@ -1,5 +1,5 @@
 -- A reader that goes on until the form it is in is closed. Assumes nothing.
-use Rattle.std.proofs.Common.{◌≡◌, ℕ, zero, suc, ◌+◌, ◌-◌, ◌<◌, ◌≤◌, List, [], ◌∷◌, length, IfOk, Ok, Err, Result, sym, refl, ap, ◌∙◌, arith, MatchResult}
+use Rattle.std.proofs.Common.{◌≡◌, ℕ, zero, suc, ◌+◌, ◌-◌, ◌<◌, ◌≤◌, List, [], length, IfOk, Ok, Err, Result, sym, refl, ap, ◌∙◌, arith, MatchResult}
 use Rattle.syntax.specs.Census.{depth_after}
 use Rattle.syntax.specs.Readers.{text_of, place_of, opens_of, left}
 use Rattle.syntax.specs.Reading.{Piece, then, first}

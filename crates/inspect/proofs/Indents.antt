@@ -1,5 +1,5 @@
 -- Indents, one form deeper. Assumes nothing.
-use Rattle.std.proofs.Common.{◌≡◌, ℕ, zero, suc, ◌+◌, List, [], ◌∷◌, ◌++◌, codes, refl, ap, ◌∙◌, add-one}
+use Rattle.std.proofs.Common.{◌≡◌, ℕ, zero, suc, ◌+◌, ◌++◌, codes, refl, ap, ◌∙◌, add-one}
 use Rattle.inspect.specs.Outlines.{indent}
 
 indent_suc : (d : ℕ) → indent (suc d) ≡ indent d ++ codes "  "

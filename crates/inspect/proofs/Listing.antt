@@ -1,5 +1,5 @@
 -- The lines for the items of a text, piece by piece and as a tree. Assumes nothing.
-use Rattle.std.proofs.Common.{◌≡◌, ℕ, zero, suc, ◌+◌, ◌-◌, ◌≤◌, List, [], ◌∷◌, ◌++◌, length, drop, Ok, Err, Result, sym, refl, ap, ◌∙◌, subst, append_assoc, append-nil, arith}
+use Rattle.std.proofs.Common.{◌≡◌, ℕ, suc, ◌+◌, ◌-◌, ◌≤◌, List, [], ◌∷◌, ◌++◌, length, drop, Ok, Err, Result, sym, refl, ap, ◌∙◌, append_assoc, append-nil, arith}
 use Rattle.std.proofs.lemmas.List.{length-append}
 use Rattle.syntax.specs.Census.{depth_after}
 use Rattle.syntax.specs.Readers.{text_of, place_of, opens_of, left}
@@ -9,7 +9,7 @@ use Rattle.syntax.specs.declared.lexeme.Lexeme.{Lexeme}
 use Rattle.syntax.specs.declared.lexeme.LexemeKind.TheVariants as L
 use Rattle.syntax.specs.declared.reader.Reader.{Reader}
 use Rattle.syntax.proofs.Onward.{Onward}
-use Rattle.tree.specs.Reading.{tree_of, tree_read, flat}
+use Rattle.tree.specs.Reading.{tree_of, flat}
 use Rattle.tree.specs.Trees.{Tree, nil, token, form, open_byte, close_byte, printed, width}
 use Rattle.tree.proofs.Accepting.{accepting}
 use Rattle.tree.proofs.Rereading.{reading-printed}

@@ -1,10 +1,10 @@
 -- The census of what was read, and what is left, make up the census of the text. Assumes nothing.
-use Rattle.std.proofs.Common.{◌≡◌, ℕ, zero, suc, ◌+◌, ◌-◌, ◌^◌, ◌<◌, ◌≤◌, max, Bool, true, false, cond, ◌&&◌, eqb, List, [], ◌∷◌, ◌++◌, length, drop, Some, None, Ok, Err, count_by, Option, Result, sym, refl, ap, ◌∙◌, subst, zero-le, add-zero, add_assoc, zero-add, arith}
+use Rattle.std.proofs.Common.{◌≡◌, ℕ, ◌+◌, ◌^◌, ◌<◌, ◌≤◌, max, Bool, true, false, cond, eqb, List, [], ◌∷◌, ◌++◌, length, drop, Some, None, Ok, Err, count_by, Option, Result, sym, refl, ap, ◌∙◌, subst, zero-le, add-zero, zero-add, arith}
 use mathlib.Core.Path.{fun_ext}
 use native.Mathlib.Nat.{max-eq_left}
 use Rattle.std.proofs.lemmas.List.{length-append}
 use Rattle.std.proofs.lemmas.List.Sums.{sum_by-cons}
-use Rattle.syntax.specs.Census.{is_token_of, is_token, is_open, begins_item, begun, depth_after, tokens_of, tokens, forms, items, at_top, top_kinds, or_else, first_of, last_of, deepest, census_of, census, nothing, counted, Room}
+use Rattle.syntax.specs.Census.{is_open, begun, depth_after, tokens_of, tokens, forms, items, at_top, top_kinds, or_else, first_of, last_of, deepest, census_of, census, nothing, counted, Room}
 use Rattle.syntax.specs.Readers.{text_of, place_of, opens_of, left}
 use Rattle.syntax.specs.Reading.{Piece, then, pieces, first, reading}
 use Rattle.syntax.specs.declared.census.Census.{Census}

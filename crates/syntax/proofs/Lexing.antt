@@ -1,5 +1,5 @@
 -- Steps of the reader of one lexeme, from a place in the text to the bytes from there on. Assumes nothing.
-use Rattle.std.proofs.Common.{◌≡◌, ℕ, suc, ◌+◌, ◌<◌, ◌≤◌, List, [], ◌∷◌, length, get_or, drop, Result, sym, refl, ap, ◌∙◌, one-add}
+use Rattle.std.proofs.Common.{◌≡◌, ℕ, suc, ◌+◌, ◌<◌, ◌≤◌, List, [], ◌∷◌, length, get_or, drop, Result, sym, ap, ◌∙◌, one-add}
 use Rattle.std.proofs.lemmas.List.{drop-drop, drop_more, at_drop_more, at_drop_all}
 use Rattle.syntax.specs.Classes.{class}
 use Rattle.syntax.specs.Lexemes.{run, ended, delimited, lexeme_by, lexeme_at, some}

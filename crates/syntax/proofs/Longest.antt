@@ -1,5 +1,5 @@
 -- A lexeme that is read obeys its kind's rule, and no longer one could be taken. Assumes nothing.
-use Rattle.std.proofs.Common.{◌≡◌, ℕ, zero, suc, ◌+◌, ◌<◌, ◌≤◌, Bool, true, false, cond, eqb, leb, List, [], ◌∷◌, ◌++◌, length, take, drop, Some, None, Ok, Err, Result, sym, refl, ap, ◌∙◌, subst, add-one, one-add, arith}
+use Rattle.std.proofs.Common.{◌≡◌, ℕ, suc, ◌+◌, ◌<◌, ◌≤◌, Bool, true, false, cond, eqb, leb, List, [], ◌∷◌, ◌++◌, length, take, drop, Ok, Err, sym, refl, ap, ◌∙◌, subst, add-one, one-add, arith}
 use Rattle.std.specs.List.{prefix_len, AllByRecursion as All}
 use Rattle.std.proofs.ByRecursion.{All-weaker}
 use Rattle.std.proofs.lemmas.List.{length-append, length-take-le, take-append-drop}
@@ -8,14 +8,12 @@ use Rattle.std.proofs.lemmas.Bool.{eqb-true, leb-true, cond-true}
 use Rattle.syntax.specs.Classes.{class}
 use Rattle.syntax.specs.Limits.{token_limit}
 use Rattle.syntax.specs.Tokens.{code, is, continues, closes_class, Delimited, Obeys}
-use Rattle.syntax.specs.Lexemes.{run, finished, closing, ended, delimited, lexeme_by, lexeme, lexeme_at, some, Rule, runs_on, Stops, Longest, Found}
+use Rattle.syntax.specs.Lexemes.{run, finished, ended, delimited, lexeme_by, lexeme_at, some, runs_on, Stops, Found}
 use Rattle.syntax.specs.declared.class.Class.{Class}
 use Rattle.syntax.specs.declared.class.Class.TheVariants as C
-use Rattle.syntax.specs.declared.fault.TokenFault.{TokenFault}
 use Rattle.syntax.specs.declared.fault.TokenFaultKind.TheVariants.{ForeignByte, Unfinished, TooLong}
 use Rattle.syntax.specs.declared.kind.Kind.{Kind}
 use Rattle.syntax.specs.declared.kind.Kind.TheVariants as K
-use Rattle.syntax.specs.declared.lexeme.Lexeme.{Lexeme}
 use Rattle.syntax.specs.declared.lexeme.LexemeKind.{LexemeKind}
 use Rattle.syntax.specs.declared.lexeme.LexemeKind.TheVariants.{Open, Close, Token}
 

@@ -1,9 +1,9 @@
 -- A reader that goes on by one lexeme, comes to the end or meets a fault. Assumes nothing.
-use Rattle.std.proofs.Common.{◌≡◌, ℕ, zero, suc, ◌+◌, ◌-◌, ◌<◌, ◌≤◌, List, [], ◌∷◌, length, take, drop, Some, None, Ok, Err, Option, Result, sym, refl, ap, ◌∙◌, subst, arith}
+use Rattle.std.proofs.Common.{◌≡◌, ℕ, ◌+◌, ◌-◌, ◌<◌, ◌≤◌, List, [], ◌∷◌, length, take, drop, Some, None, Ok, Err, Option, Result, sym, refl, ap, ◌∙◌, subst, arith}
 use Rattle.std.proofs.lemmas.List.{length-drop, length-take-le, drop-drop}
 use Rattle.syntax.specs.Census.{depth_after}
 use Rattle.syntax.specs.Readers.{text_of, place_of, opens_of, left, next, Next}
-use Rattle.syntax.specs.Reading.{Piece, Step, first, opened, piece, pieces}
+use Rattle.syntax.specs.Reading.{Step, first, opened, piece, pieces}
 use Rattle.syntax.specs.declared.fault.ReadFault.{ReadFault}
 use Rattle.syntax.specs.declared.lexeme.Lexeme.{Lexeme}
 use Rattle.syntax.specs.declared.lexeme.LexemeKind.{LexemeKind}

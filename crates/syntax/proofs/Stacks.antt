@@ -1,5 +1,5 @@
 -- A stack in an array: its length, a push and a pop. Assumes nothing.
-use Rattle.std.proofs.Common.{◌≡◌, ℕ, zero, suc, ◌+◌, ◌-◌, ◌<◌, ◌≤◌, ◌≢◌, List, [], ◌∷◌, length, get_or, set, sym, refl, ap, ◌∙◌, le_refl, add-one, arith, get_or-set_other, get_or-set_same}
+use Rattle.std.proofs.Common.{◌≡◌, ℕ, zero, suc, ◌+◌, ◌-◌, ◌<◌, ◌≤◌, ◌≢◌, List, ◌∷◌, length, get_or, set, refl, ap, ◌∙◌, le_refl, add-one, arith, get_or-set_other, get_or-set_same}
 use Rattle.syntax.specs.OpenForms.{newest}
 
 pub length-newest : (xs : List ℕ) (n : ℕ) → length (newest xs n) ≡ n

@@ -1,10 +1,10 @@
 -- The pieces of a text, one step after another. Assumes nothing.
-use Rattle.std.proofs.Common.{◌≡◌, ℕ, zero, suc, ◌+◌, ◌-◌, ◌<◌, ◌≤◌, Bool, true, false, cond, ltb, List, [], ◌∷◌, length, take, drop, Some, None, Ok, Err, Option, Result, sym, refl, ap, ◌∙◌, subst, add-zero, arith}
+use Rattle.std.proofs.Common.{◌≡◌, ℕ, zero, suc, ◌+◌, ◌-◌, ◌≤◌, Bool, true, false, cond, ltb, List, [], ◌∷◌, length, drop, Some, None, Ok, Err, Option, Result, sym, refl, ap, ◌∙◌, subst, add-zero, arith}
 use Rattle.std.proofs.lemmas.Bool.{ltb-true}
 use Rattle.syntax.specs.Census.{depth_after}
 use Rattle.syntax.specs.Lexemes.{lexeme, Longest, Found, some, lexeme_at}
 use Rattle.syntax.specs.Limits.{nesting_limit}
-use Rattle.syntax.specs.Readers.{text_of, place_of, opens_of, next, Next, Goes}
+use Rattle.syntax.specs.Readers.{next, Next, Goes}
 use Rattle.syntax.specs.Reading.{Piece, Step, then, raised, opened, entered, step, unclosed, piece, first, pieces}
 use Rattle.syntax.specs.declared.fault.BracketFault.{BracketFault}
 use Rattle.syntax.specs.declared.fault.BracketFaultKind.TheVariants.{TooDeep}

@@ -1,5 +1,5 @@
 -- A fault lies within the text. Assumes nothing.
-use Rattle.std.proofs.Common.{◌≡◌, ℕ, ◌+◌, ◌<◌, ◌≤◌, Bool, true, false, cond, ltb, List, [], ◌∷◌, length, drop, Some, None, Ok, Err, Result, sym, refl, ap, ◌∙◌, subst, arith}
+use Rattle.std.proofs.Common.{◌≡◌, ℕ, ◌+◌, ◌≤◌, Bool, true, false, cond, ltb, List, [], ◌∷◌, length, drop, Some, Ok, Err, Result, sym, refl, ap, ◌∙◌, subst, arith}
 use Rattle.std.specs.List.{AllByRecursion as All}
 use Rattle.std.proofs.lemmas.List.{length-drop}
 use Rattle.syntax.specs.Census.{census_of, census}
@@ -7,7 +7,7 @@ use Rattle.syntax.specs.Faults.{place_of}
 use Rattle.syntax.specs.Lexemes.{lexeme, some, Found}
 use Rattle.syntax.specs.Limits.{nesting_limit}
 use Rattle.syntax.specs.Readers.{next}
-use Rattle.syntax.specs.Reading.{Piece, Step, then, raised, opened, entered, step, unclosed, piece, first, pieces, reading}
+use Rattle.syntax.specs.Reading.{Piece, Step, then, raised, opened, entered, step, piece, pieces, reading}
 use Rattle.syntax.specs.declared.fault.BracketFault.{BracketFault}
 use Rattle.syntax.specs.declared.fault.BracketFaultKind.TheVariants.{UnclosedForm, TooDeep}
 use Rattle.syntax.specs.declared.fault.ReadFault.{ReadFault}

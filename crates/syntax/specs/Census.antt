@@ -12,7 +12,7 @@
 -- census text       the census of a text, or its first fault
 -- counted c k d     the census c and one lexeme more, of kind k, which is met while d forms are open
 -- Room c            each number of c has room for one more
-use Rattle.std.specs.Prelude.{ℕ, ◌+◌, ◌-◌, ◌^◌, ◌<◌, max, Bool, true, false, cond, List, [], ◌∷◌, ◌++◌, length, Some, None, Ok, Err, count_by, Option, Result, ◌==◌}
+use Rattle.std.specs.Prelude.{ℕ, ◌+◌, ◌-◌, ◌^◌, ◌<◌, max, Bool, true, false, cond, List, [], ◌∷◌, ◌++◌, length, Some, None, Ok, count_by, Option, Result, ◌==◌}
 use Rattle.syntax.specs.Reading.{Piece, then, reading}
 use Rattle.syntax.specs.Tokens.{number_of}
 use Rattle.syntax.specs.declared.census.Census.{Census}

@@ -1,7 +1,7 @@
 -- The class of each byte value. Assumes nothing.
 --
 -- class b   the class of the byte b
-use Rattle.std.specs.Prelude.{ℕ, Bool, cond, ◌&&◌, ◌||◌, ◌==◌, nat_le}
+use Rattle.std.specs.Prelude.{ℕ, cond, ◌&&◌, ◌||◌, ◌==◌, nat_le}
 use Rattle.syntax.specs.declared.class.Class.{Class}
 use Rattle.syntax.specs.declared.class.Class.TheVariants.{Open, Close, LineEnd, Blank, Comment, Quote, Word, Foreign}
 

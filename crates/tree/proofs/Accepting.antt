@@ -1,16 +1,16 @@
 -- An accepted text's tree is well formed, and prints as that text. Assumes nothing.
-use Rattle.std.proofs.Common.{◌≡◌, ℕ, zero, suc, ◌+◌, ◌≤◌, max, List, [], ◌∷◌, ◌++◌, length, take, drop, Some, Ok, Err, Result, sym, refl, ap, ◌∙◌, subst, append_assoc, append-nil, arith}
+use Rattle.std.proofs.Common.{◌≡◌, ℕ, suc, ◌+◌, ◌≤◌, List, [], ◌∷◌, ◌++◌, length, take, drop, Ok, Err, Result, sym, refl, ap, ◌∙◌, subst, append_assoc, append-nil, arith}
 use Rattle.std.specs.List.{AllByRecursion as All}
 use Rattle.std.proofs.lemmas.List.{take-append-drop}
 use Rattle.syntax.specs.Lexemes.{Longest, Stops}
 use Rattle.syntax.specs.Limits.{nesting_limit}
-use Rattle.syntax.specs.Reading.{Piece, Step, then, opened, piece, pieces, reading}
+use Rattle.syntax.specs.Reading.{Piece, then, opened, piece, pieces, reading}
 use Rattle.syntax.specs.declared.fault.ReadFault.{ReadFault}
 use Rattle.syntax.specs.declared.lexeme.LexemeKind.{LexemeKind}
 use Rattle.syntax.specs.declared.lexeme.LexemeKind.TheVariants as L
 use Rattle.syntax.proofs.Walking.{taken, pieces_more, pieces_end, pieces_fault, first_ok, walked, length-opened, opened_shallow}
 use Rattle.tree.specs.Reading.{Stack, closed_over, put, built, tree_of, tree_read}
-use Rattle.tree.specs.Trees.{Tree, nil, token, form, open_byte, close_byte, printed}
+use Rattle.tree.specs.Trees.{Tree, open_byte, close_byte, printed}
 use Rattle.tree.specs.WellFormed.{nesting, TokensObey, Apart, WellFormed}
 use Rattle.tree.proofs.Starts.{apart_from_stops, open_bytes, close_bytes}
 

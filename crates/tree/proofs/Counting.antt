@@ -1,10 +1,9 @@
 -- The census of an accepted text counts its tree. Assumes nothing.
-use Rattle.std.proofs.Common.{◌≡◌, ℕ, suc, ◌+◌, ◌-◌, max, Bool, true, false, cond, eqb, List, [], ◌∷◌, ◌++◌, length, Ok, count_by, sym, refl, ap, ◌∙◌, append_assoc, append-nil, add-one, arith}
+use Rattle.std.proofs.Common.{◌≡◌, ℕ, suc, ◌+◌, ◌-◌, max, Bool, false, cond, eqb, List, [], ◌∷◌, ◌++◌, length, Ok, count_by, sym, refl, ap, ◌∙◌, append_assoc, append-nil, arith}
 use Rattle.std.proofs.lemmas.List.Sums.{sum_by-cons, sum_by-append}
 use Rattle.std.proofs.lemmas.Bool.{cond-false, ne_eqb}
 use Rattle.syntax.specs.Census.{is_token_of, is_token, is_open, begins_item, at_top, begun, top_kinds, first_of, last_of, deepest, census_of, census}
-use Rattle.syntax.specs.Reading.{Piece, then, reading}
-use Rattle.syntax.specs.declared.kind.ItemKind.{ItemKind}
+use Rattle.syntax.specs.Reading.{Piece, then}
 use Rattle.syntax.specs.declared.kind.ItemKind.TheVariants as I
 use Rattle.syntax.specs.declared.kind.Kind.TheVariants as K
 use Rattle.syntax.specs.declared.lexeme.LexemeKind.{LexemeKind}
@@ -13,7 +12,7 @@ use Rattle.syntax.proofs.Counting.{same_census, deepest_above}
 use Rattle.tree.specs.Counts.{tally, counts}
 use Rattle.tree.specs.Items.{kinds}
 use Rattle.tree.specs.Reading.{tree_read, flat}
-use Rattle.tree.specs.Trees.{Tree, nil, token, form, open_byte, close_byte, printed}
+use Rattle.tree.specs.Trees.{Tree, nil, token, form, open_byte, close_byte}
 use Rattle.tree.specs.WellFormed.{nesting}
 use Rattle.tree.proofs.Accepting.{accepting}
 use Rattle.tree.proofs.Rereading.{reading-printed}

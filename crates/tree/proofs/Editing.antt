@@ -1,11 +1,11 @@
 -- Printing an edited tree, and the places of items. Assumes nothing.
-use Rattle.std.proofs.Common.{◌≡◌, ℕ, zero, suc, ◌+◌, ◌≤◌, Bool, true, false, cond, List, [], ◌∷◌, ◌++◌, length, take, drop, sym, refl, ap, ◌∙◌, append_assoc, arith}
+use Rattle.std.proofs.Common.{◌≡◌, ℕ, suc, ◌+◌, Bool, true, false, cond, List, [], ◌∷◌, ◌++◌, length, take, drop, sym, refl, ap, ◌∙◌, append_assoc, arith}
 use Rattle.std.proofs.lemmas.List.{take_at, drop_at}
-use Rattle.std.proofs.lemmas.Bool.{cond-true, cond-false}
-use Rattle.tree.specs.Edits.{Leads, followed, chain, before, place, replaced, edited}
+use Rattle.std.proofs.lemmas.Bool.{cond-true}
+use Rattle.tree.specs.Edits.{Leads, followed, chain, before, place, edited}
 use Rattle.tree.specs.Items.{take_items, drop_items, is_form, inner, item}
 use Rattle.tree.specs.Laws.{Reaches}
-use Rattle.tree.specs.Trees.{Tree, nil, token, form, open_byte, close_byte, printed, width, ◌⧺◌}
+use Rattle.tree.specs.Trees.{Tree, form, open_byte, close_byte, printed, width, ◌⧺◌}
 use Rattle.tree.proofs.Chains.{printed-⧺, take-drop_items, form_between, item-then_rest}
 
 -- the bytes of the print from item n of the chain at the path on

@@ -1,14 +1,14 @@
 -- A well-formed tree's print is accepted, and read as that tree. Assumes nothing.
-use Rattle.std.proofs.Common.{◌≡◌, ℕ, zero, suc, ◌+◌, ◌<◌, ◌≤◌, max, Bool, true, false, cond, ltb, leb, List, [], ◌∷◌, ◌++◌, length, take, drop, Some, None, Ok, Err, Option, Result, sym, refl, ap, ◌∙◌, subst, append_assoc, append-nil, add_assoc, one-add, arith}
+use Rattle.std.proofs.Common.{◌≡◌, ℕ, suc, ◌+◌, ◌<◌, ◌≤◌, Bool, true, false, ltb, leb, List, [], ◌∷◌, ◌++◌, length, drop, Some, Ok, Err, Result, sym, refl, ap, ◌∙◌, subst, append_assoc, append-nil, one-add, arith}
 use Rattle.std.specs.List.{prefix_len, AllByRecursion as All}
 use Rattle.std.proofs.ByRecursion.{All-weaker}
 use Rattle.std.proofs.lemmas.List.{length-append, take_at, drop_at}
 use Rattle.std.proofs.lemmas.Bool.{cond-true, cond-false, le-leb, lt-ltb}
 use Rattle.syntax.specs.Classes.{class}
-use Rattle.syntax.specs.Lexemes.{run, finished, closing, ended, delimited, lexeme_by, lexeme, some, lexeme_at, runs_on, Stops}
+use Rattle.syntax.specs.Lexemes.{run, finished, ended, delimited, lexeme_by, lexeme, some, lexeme_at, runs_on, Stops}
 use Rattle.syntax.specs.Limits.{token_limit, nesting_limit}
 use Rattle.syntax.specs.Readers.{next}
-use Rattle.syntax.specs.Reading.{Piece, Step, then, raised, opened, entered, step, piece, first, pieces, reading}
+use Rattle.syntax.specs.Reading.{Piece, Step, then, raised, opened, entered, first, pieces, reading}
 use Rattle.syntax.specs.Tokens.{continues_class, continues, closes_class, Obeys, Delimited}
 use Rattle.syntax.specs.declared.class.Class.{Class}
 use Rattle.syntax.specs.declared.class.Class.TheVariants as C
@@ -21,7 +21,7 @@ use Rattle.syntax.specs.declared.lexeme.Lexeme.{Lexeme}
 use Rattle.syntax.specs.declared.lexeme.LexemeKind.TheVariants as L
 use Rattle.syntax.proofs.Longest.{same_is}
 use Rattle.syntax.proofs.Walking.{pieces_more}
-use Rattle.tree.specs.Reading.{Stack, put, built, tree_of, tree_read, flat}
+use Rattle.tree.specs.Reading.{put, built, tree_of, tree_read, flat}
 use Rattle.tree.specs.Trees.{Tree, nil, token, form, open_byte, close_byte, printed, width}
 use Rattle.tree.specs.WellFormed.{nesting, TokensObey, Apart, WellFormed}
 use Rattle.tree.proofs.Starts.{Closes, stops_before}

@@ -1,11 +1,10 @@
 -- Where an edited tree is well formed, and where neighbours in a changed chain run together. Assumes nothing.
-use Rattle.std.proofs.Common.{◌≡◌, ℕ, zero, suc, ◌+◌, ◌≤◌, max, Bool, true, false, cond, ◌⊎◌, List, [], ◌∷◌, ◌++◌, length, Some, None, Option, sym, refl, ap, ◌∙◌, subst, inl, inr, ⊎_elim, arith}
-use Rattle.std.proofs.lemmas.Bool.{cond-true, cond-false}
+use Rattle.std.proofs.Common.{◌≡◌, ℕ, zero, suc, ◌+◌, ◌≤◌, max, Bool, true, false, cond, ◌⊎◌, List, [], ◌∷◌, length, Some, None, Option, sym, refl, ap, ◌∙◌, subst, inl, inr, ⊎_elim, arith}
+use Rattle.std.proofs.lemmas.Bool.{cond-false}
 use Rattle.syntax.specs.Census.{first_of}
-use Rattle.syntax.specs.Limits.{nesting_limit}
 use Rattle.syntax.specs.declared.kind.ItemKind.TheVariants as I
 use Rattle.tree.specs.Edits.{Leads, chain, replaced, edited}
-use Rattle.tree.specs.Items.{kinds, top_items, first_kind, take_items, drop_items, is_form, inner}
+use Rattle.tree.specs.Items.{top_items, first_kind, take_items, drop_items, inner}
 use Rattle.tree.specs.Laws.{Reaches, SoundEdit}
 use Rattle.tree.specs.Trees.{Tree, nil, token, form, ◌⧺◌}
 use Rattle.tree.specs.WellFormed.{clash, clash_from, first_clash, nesting, TokensObey, Apart, WellFormed}

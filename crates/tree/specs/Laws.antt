@@ -1,5 +1,5 @@
 -- What is promised of reading, printing and editing. Assumes nothing.
-use Rattle.std.specs.Prelude.{◌≡◌, ℕ, ◌+◌, ◌<◌, ◌≤◌, ◌⊎◌, List, ◌++◌, length, take, drop, Some, None, Ok, Err, ◌≢◌}
+use Rattle.std.specs.Prelude.{◌≡◌, ℕ, ◌+◌, ◌≤◌, ◌⊎◌, List, ◌++◌, length, take, drop, Some, None, Ok, Err, ◌≢◌}
 use Rattle.syntax.specs.Census.{census}
 use Rattle.syntax.specs.Limits.{nesting_limit}
 use Rattle.syntax.specs.declared.fault.ReadFault.{ReadFault}

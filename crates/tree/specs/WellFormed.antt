@@ -8,7 +8,7 @@
 -- WellFormed t       both, and forms nest at most 16 deep
 -- first_clash t      in the chain itself, the number of the second item of the first pair that runs together
 -- clash_from n t     the same, where the items are numbered from n
-use Rattle.std.specs.Prelude.{◌≡◌, ℕ, suc, ◌≤◌, max, Bool, true, false, cond, ◌&&◌, ◌||◌, length, Some, None, Option, ◌==◌}
+use Rattle.std.specs.Prelude.{◌≡◌, ℕ, suc, ◌≤◌, max, Bool, false, cond, ◌&&◌, ◌||◌, length, Some, None, Option, ◌==◌}
 use Rattle.syntax.specs.Limits.{token_limit, nesting_limit}
 use Rattle.syntax.specs.Tokens.{item_number, Obeys}
 use Rattle.syntax.specs.declared.kind.ItemKind.{ItemKind}

@@ -1,8 +1,8 @@
-use Rattle.std.proofs.Common.{◌≡◌, ◌≤◌, length, Ok, Err, sym, ap, ◌∙◌, subst, arith, rules}
+use Rattle.std.proofs.Common.{Ok, Err, ap, ◌∙◌, arith}
 use Rattle.std.proofs.lemmas.Result.{err_from_is_err_and}
-use Rattle.syntax.specs.Readers.{text_of, place_of, opens_of}
+use Rattle.syntax.specs.Readers.{text_of}
 use Rattle.syntax.proofs.Onward.{Onward, onward, onward_less, left_end, end_stays, left_fault}
-use Rattle.inspect.proofs.Closing.{Going, going_start, going_more, going_end, going_fault, refused_end}
+use Rattle.inspect.proofs.Closing.{going_start, going_more, going_end, going_fault, refused_end}
 use Rattle.inspect.proofs.outline.form_end.Goals as goal
 use Rattle.inspect.proofs.outline.form_end.Goals.{In-Some}
 

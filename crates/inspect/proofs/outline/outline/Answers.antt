@@ -1,9 +1,9 @@
-use Rattle.std.proofs.Common.{◌≡◌, ◌+◌, ◌-◌, ◌<◌, ◌≤◌, ◌++◌, length, take, drop, Ok, Err, string_bytes, sym, ap, ◌∙◌, subst, arith, rules}
+use Rattle.std.proofs.Common.{◌≡◌, ◌-◌, ◌<◌, ◌≤◌, ◌++◌, length, take, drop, Ok, Err, string_bytes, sym, ap, ◌∙◌, subst, arith}
 use Rattle.std.proofs.lemmas.Result.{err_from_is_err_and}
-use Rattle.syntax.specs.Readers.{text_of, place_of, opens_of}
+use Rattle.syntax.specs.Readers.{place_of}
 use Rattle.inspect.specs.Outlines.{line_by, Outlines}
 use Rattle.syntax.proofs.Onward.{Onward, onward, onward_less, left_end, left_fault}
-use Rattle.inspect.proofs.Listing.{Listing, listing_start, listing_more, listing_end, listing_fault, fault_before, told_weaker}
+use Rattle.inspect.proofs.Listing.{listing_start, listing_more, listing_end, listing_fault, fault_before, told_weaker}
 use Rattle.inspect.proofs.outline.outline.Goals as goal
 use Rattle.inspect.proofs.outline.outline.Goals.{In-Some}
 

@@ -1,4 +1,4 @@
-use Rattle.std.proofs.Common.{◌≡◌, ◌++◌, string_bytes, codes, decimal, ap, ◌∙◌}
+use Rattle.std.proofs.Common.{◌++◌, string_bytes, codes, decimal, ap, ◌∙◌}
 use Rattle.syntax.specs.Messages.{item_words}
 use Rattle.inspect.specs.Outlines.{indent}
 use Rattle.inspect.proofs.Appends.{appended, two_more}

@@ -1,4 +1,4 @@
-use Rattle.std.proofs.Common.{◌++◌, is_ok, string_bytes, codes, sym, ap, ◌∙◌, append_assoc, rules}
+use Rattle.std.proofs.Common.{◌++◌, is_ok, string_bytes, codes, sym, ap, ◌∙◌, append_assoc}
 use Rattle.std.proofs.ResultArms.{chosen}
 use Rattle.inspect.specs.Outlines.{indent}
 use Rattle.inspect.proofs.Indents.{indent_more}

@@ -1,4 +1,4 @@
-use Rattle.std.proofs.Common.{sym, rules}
+use Rattle.std.proofs.Common.{rules}
 use Rattle.syntax.proofs.Stacks.{length-newest, newest_push, newest_pop}
 use Rattle.syntax.proofs.open_forms.OpenForms.enter.Goals as goal
 

@@ -1,4 +1,4 @@
-use Rattle.std.proofs.Common.{drop, Ok, subst, arith, rules}
+use Rattle.std.proofs.Common.{drop, Ok, subst, rules}
 use Rattle.std.proofs.lemmas.List.{length-drop}
 use Rattle.syntax.specs.Lexemes.{Found}
 use Rattle.syntax.proofs.reader.Reader.next.Goals as goal
