@@ -1,6 +1,6 @@
 -- A lexeme that is read obeys its kind's rule, and no longer one could be taken. Assumes nothing.
 use Rattle.std.proofs.Common.{◌≡◌, ℕ, suc, ◌+◌, ◌<◌, ◌≤◌, Bool, true, false, cond, eqb, leb, List, [], ◌∷◌, ◌++◌, length, take, drop, Ok, Err, sym, refl, ap, ◌∙◌, subst, add-one, one-add, arith}
-use Rattle.std.specs.List.{prefix_len, AllByRecursion as All}
+use Rattle.std.specs.List.{prefix_len, AllByRecursion}
 use Rattle.std.proofs.ByRecursion.{All-weaker}
 use Rattle.std.proofs.lemmas.List.{length-append, length-take-le, take-append-drop}
 use Rattle.std.proofs.lemmas.List.Sums.{prefix_len-le-length}
@@ -50,11 +50,11 @@ same_is c d e = ap (λ x. is x d) e ∙ self d
     self C.Foreign = refl
 
 -- the bytes of a run pass the test
-leading_all : (p : ℕ → Bool) (bs : List ℕ) → All (λ b. p b ≡ true) (take (prefix_len p bs) bs)
+leading_all : (p : ℕ → Bool) (bs : List ℕ) → AllByRecursion (λ b. p b ≡ true) (take (prefix_len p bs) bs)
 leading_all p [] = tt
 leading_all p (b ∷ bs) = by (p b) refl (leading_all p bs)
   where
-    by : (t : Bool) → p b ≡ t → All (λ x. p x ≡ true) (take (prefix_len p bs) bs) → All (λ x. p x ≡ true) (take (cond t (1 + prefix_len p bs) 0) (b ∷ bs))
+    by : (t : Bool) → p b ≡ t → AllByRecursion (λ x. p x ≡ true) (take (prefix_len p bs) bs) → AllByRecursion (λ x. p x ≡ true) (take (cond t (1 + prefix_len p bs) 0) (b ∷ bs))
     by true e rest = rw one-add (e, rest)
     by false e rest = tt
 
@@ -91,7 +91,7 @@ finished_found k n p bs more within obeys stops = by (leb n token_limit) refl
     by false h = (omega arith, omega arith)
 
 -- a run of a kind whose first byte is one of its bytes
-run_found : (k : Kind) (p b : ℕ) (bs : List ℕ) → continues k b ≡ true → (Stops (Token k) (drop (run k (b ∷ bs)) (b ∷ bs))) → ((xs : List ℕ) → 0 < length xs → All (λ x. continues k x ≡ true) xs → Obeys k xs) → Found p (some (finished k (run k (b ∷ bs)) p)) (b ∷ bs)
+run_found : (k : Kind) (p b : ℕ) (bs : List ℕ) → continues k b ≡ true → (Stops (Token k) (drop (run k (b ∷ bs)) (b ∷ bs))) → ((xs : List ℕ) → 0 < length xs → AllByRecursion (λ x. continues k x ≡ true) xs → Obeys k xs) → Found p (some (finished k (run k (b ∷ bs)) p)) (b ∷ bs)
 run_found k p b bs first stops obeys =
     let long : run k (b ∷ bs) ≡ 1 + run k bs = cond-true (continues k b) (1 + run k bs) 0 first in
     let more : 0 < run k (b ∷ bs) = omega arith in
@@ -101,7 +101,7 @@ run_found k p b bs first stops obeys =
 
 -- a token that is opened by b, goes on with the bytes of inner, and is stopped by what comes then
 module _ (k : Kind) (opening shutting : Class) (shuts : (c : Class) → closes_class k c ≡ true → c ≡ shutting) (obeys : (xs : List ℕ) → Delimited opening k shutting xs → Obeys k xs) (never : (b : ℕ) → runs_on (Token k) b ≡ false) where
-  ended_found : (p b : ℕ) (inner rest : List ℕ) → class b ≡ opening → All (λ x. continues k x ≡ true) inner → Found p (some (ended k p (suc (length inner)) rest)) (b ∷ (inner ++ rest))
+  ended_found : (p b : ℕ) (inner rest : List ℕ) → class b ≡ opening → AllByRecursion (λ x. continues k x ≡ true) inner → Found p (some (ended k p (suc (length inner)) rest)) (b ∷ (inner ++ rest))
   ended_found p b inner [] first inside = (omega arith, omega arith)
   ended_found p b inner (x ∷ xs) first inside = by (closes_class k (class x)) refl
     where

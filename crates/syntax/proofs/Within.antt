@@ -1,6 +1,6 @@
 -- A fault lies within the text. Assumes nothing.
 use Rattle.std.proofs.Common.{◌≡◌, ℕ, ◌+◌, ◌≤◌, Bool, true, false, cond, ltb, List, [], ◌∷◌, length, drop, Some, Ok, Err, Result, sym, refl, ap, ◌∙◌, subst, arith}
-use Rattle.std.specs.List.{AllByRecursion as All}
+use Rattle.std.specs.List.{AllByRecursion}
 use Rattle.std.proofs.lemmas.List.{length-drop}
 use Rattle.syntax.specs.Census.{census_of, census}
 use Rattle.syntax.specs.Faults.{place_of}
@@ -31,15 +31,15 @@ module _ (m : ℕ) where
   opened_fault (o ∷ os) p Close f h = absurd (let z : ◌≡◌ {A = ℕ} 0 1 = cc in omega arith)
   opened_fault os p (Token k) f h = absurd (let z : ◌≡◌ {A = ℕ} 0 1 = cc in omega arith)
 
-  opened_all : (os : List ℕ) (p : ℕ) (k : LexemeKind) (now : List ℕ) → p ≤ m → All (λ o. o ≤ m) os → opened os p k ≡ Ok now → All (λ o. o ≤ m) now
+  opened_all : (os : List ℕ) (p : ℕ) (k : LexemeKind) (now : List ℕ) → p ≤ m → AllByRecursion (λ o. o ≤ m) os → opened os p k ≡ Ok now → AllByRecursion (λ o. o ≤ m) now
   opened_all os p Open now at all h = by (ltb (length os) nesting_limit) h
     where
-      by : (t : Bool) → cond {A = Result (List ℕ) BracketFault} t (Ok (p ∷ os)) (Err (record { kind = TooDeep; place = p })) ≡ Ok now → All (λ o. o ≤ m) now
-      by true h = let e : p ∷ os ≡ now = cc in subst (All (λ o. o ≤ m)) e (at, all)
+      by : (t : Bool) → cond {A = Result (List ℕ) BracketFault} t (Ok (p ∷ os)) (Err (record { kind = TooDeep; place = p })) ≡ Ok now → AllByRecursion (λ o. o ≤ m) now
+      by true h = let e : p ∷ os ≡ now = cc in subst (AllByRecursion (λ o. o ≤ m)) e (at, all)
       by false h = absurd (let z : ◌≡◌ {A = ℕ} 0 1 = cc in omega arith)
   opened_all [] p Close now at all h = absurd (let z : ◌≡◌ {A = ℕ} 0 1 = cc in omega arith)
-  opened_all (o ∷ os) p Close now at all h = let e : os ≡ now = cc in subst (All (λ o. o ≤ m)) e all.1
-  opened_all os p (Token k) now at all h = let e : os ≡ now = cc in subst (All (λ o. o ≤ m)) e all
+  opened_all (o ∷ os) p Close now at all h = let e : os ≡ now = cc in subst (AllByRecursion (λ o. o ≤ m)) e all.1
+  opened_all os p (Token k) now at all h = let e : os ≡ now = cc in subst (AllByRecursion (λ o. o ≤ m)) e all
 
   entered_fault : (p : ℕ) (l : Lexeme) (f : ReadFault) (r : Result (List ℕ) BracketFault) → ((g : BracketFault) → r ≡ Err g → g.place ≡ p) → then {B = Step} (raised R.Bracket r) (λ now. Ok (record { lexeme = l; opens = now })) ≡ Err f → place_of f ≡ p
   entered_fault p l f (Ok now) at h = absurd (let z : ◌≡◌ {A = ℕ} 0 1 = cc in omega arith)
@@ -49,7 +49,7 @@ module _ (m : ℕ) where
   step_fault os p n f (Ok l) at token h = omega (arith, entered_fault p l f (opened os p l.kind) (opened_fault os p l.kind) h)
   step_fault os p n f (Err g) at token h = let e : R.Token g ≡ f = cc in omega (arith, ap place_of e, token g refl)
 
-  next_fault : (os : List ℕ) (p : ℕ) (bs : List ℕ) (f : ReadFault) → All (λ o. o ≤ m) os → p + length bs ≤ m → next os p bs ≡ Err f → place_of f ≤ m
+  next_fault : (os : List ℕ) (p : ℕ) (bs : List ℕ) (f : ReadFault) → AllByRecursion (λ o. o ≤ m) os → p + length bs ≤ m → next os p bs ≡ Err f → place_of f ≤ m
   next_fault [] p [] f all at h = absurd (let z : ◌≡◌ {A = ℕ} 0 1 = cc in omega arith)
   next_fault (o ∷ os) p [] f all at h =
       let e : R.Bracket (record { kind = UnclosedForm; place = o }) ≡ f = cc in subst (λ g. place_of g ≤ m) e all.0
@@ -63,9 +63,9 @@ module _ (m : ℕ) where
           (λ t k. let w = subst (λ r. Found p r (b ∷ bs)) (ap some k) (found p (b ∷ bs)) in omega arith)
           (e ∙ ap Err q)
 
-  pieces_within : (os : List ℕ) (p : ℕ) (bs : List ℕ) → All (λ o. o ≤ m) os → p + length bs ≤ m → (f : ReadFault) → pieces os p 0 bs ≡ Err f → place_of f ≤ m
+  pieces_within : (os : List ℕ) (p : ℕ) (bs : List ℕ) → AllByRecursion (λ o. o ≤ m) os → p + length bs ≤ m → (f : ReadFault) → pieces os p 0 bs ≡ Err f → place_of f ≤ m
   pieces_within =
-      walked (λ os p bs. All (λ o. o ≤ m) os → p + length bs ≤ m → (f : ReadFault) → pieces os p 0 bs ≡ Err f → place_of f ≤ m)
+      walked (λ os p bs. AllByRecursion (λ o. o ≤ m) os → p + length bs ≤ m → (f : ReadFault) → pieces os p 0 bs ≡ Err f → place_of f ≤ m)
       (λ os p bs e all at f h. absurd (let z : ◌≡◌ {A = ℕ} 0 1 = cc ((pieces_end os p bs e).0, h) in omega arith))
       (λ os p bs g e all at f h. let q : g ≡ f = cc (pieces_fault os p bs g e, h) in next_fault os p bs f all at (e ∙ ap Err q))
       (λ os p bs s e after all at f h.

@@ -13,7 +13,7 @@
 -- Longest k n bs     the first n bytes of bs are a lexeme of kind k, and no longer one could be taken
 -- Found p r bs       r tells such a lexeme of bs, which begins at place p, or that bs is empty, or a fault within bs
 use Rattle.std.specs.Prelude.{◌≡◌, ℕ, suc, ◌+◌, ◌<◌, ◌≤◌, Bool, false, cond, List, [], ◌∷◌, length, take, drop, Some, None, Ok, Err, Option, Result, nat_le}
-use Rattle.std.specs.List.{prefix_len, AllByRecursion as All}
+use Rattle.std.specs.List.{prefix_len, AllByRecursion}
 use Rattle.syntax.specs.Classes.{class}
 use Rattle.syntax.specs.Limits.{token_limit}
 use Rattle.syntax.specs.Tokens.{is, continues, closes_class, Obeys}
@@ -68,8 +68,8 @@ lexeme_at p [] = Ok None
 lexeme_at p (b ∷ bs) = some (lexeme p b bs)
 
 abbrev pub Rule : LexemeKind → List ℕ → Type 0
-Rule Open bs = (length bs ≡ 1) × All (λ b. class b ≡ C.Open) bs
-Rule Close bs = (length bs ≡ 1) × All (λ b. class b ≡ C.Close) bs
+Rule Open bs = (length bs ≡ 1) × AllByRecursion (λ b. class b ≡ C.Open) bs
+Rule Close bs = (length bs ≡ 1) × AllByRecursion (λ b. class b ≡ C.Close) bs
 Rule (Token k) bs = Obeys k bs × (length bs ≤ token_limit)
 
 abbrev pub runs_on : LexemeKind → ℕ → Bool

@@ -9,7 +9,7 @@
 -- Delimited o k c bs    bs is a byte of class o, bytes that go on with a token of kind k, and a byte of class c
 -- Obeys k bs            bs obeys the rule of the kind k, but for the limit on its length
 use Rattle.std.specs.Prelude.{◌≡◌, ℕ, ◌<◌, Bool, true, false, not, ◌&&◌, List, [], ◌∷◌, ◌++◌, length, ◌==◌}
-use Rattle.std.specs.List.{AllByRecursion as All}
+use Rattle.std.specs.List.{AllByRecursion}
 use Rattle.syntax.specs.Classes.{class}
 use Rattle.syntax.specs.declared.class.Class.{Class}
 use Rattle.syntax.specs.declared.class.Class.TheVariants as C
@@ -65,13 +65,13 @@ pub record Delimited (opening : Class) (k : Kind) (closing : Class) (bs : List �
   pub inner : List ℕ
   pub back : ℕ
   pub opens : class front ≡ opening
-  pub inside : All (λ b. continues k b ≡ true) inner
+  pub inside : AllByRecursion (λ b. continues k b ≡ true) inner
   pub closes : class back ≡ closing
   pub whole : bs ≡ front ∷ (inner ++ back ∷ [])
 
 abbrev pub Obeys : Kind → List ℕ → Type 0
-Obeys K.LineEnd bs = (length bs ≡ 1) × All (λ b. class b ≡ C.LineEnd) bs
-Obeys K.Blank bs = (0 < length bs) × All (λ b. class b ≡ C.Blank) bs
-Obeys K.Word bs = (0 < length bs) × All (λ b. class b ≡ C.Word) bs
+Obeys K.LineEnd bs = (length bs ≡ 1) × AllByRecursion (λ b. class b ≡ C.LineEnd) bs
+Obeys K.Blank bs = (0 < length bs) × AllByRecursion (λ b. class b ≡ C.Blank) bs
+Obeys K.Word bs = (0 < length bs) × AllByRecursion (λ b. class b ≡ C.Word) bs
 Obeys K.Quoted bs = Delimited C.Quote K.Quoted C.Quote bs
 Obeys K.Comment bs = Delimited C.Comment K.Comment C.LineEnd bs

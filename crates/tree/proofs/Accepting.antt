@@ -1,6 +1,6 @@
 -- An accepted text's tree is well formed, and prints as that text. Assumes nothing.
 use Rattle.std.proofs.Common.{◌≡◌, ℕ, suc, ◌+◌, ◌≤◌, List, [], ◌∷◌, ◌++◌, length, take, drop, Ok, Err, Result, sym, refl, ap, ◌∙◌, subst, append_assoc, append-nil, arith}
-use Rattle.std.specs.List.{AllByRecursion as All}
+use Rattle.std.specs.List.{AllByRecursion}
 use Rattle.std.proofs.lemmas.List.{take-append-drop}
 use Rattle.syntax.specs.Lexemes.{Longest, Stops}
 use Rattle.syntax.specs.Limits.{nesting_limit}
@@ -28,8 +28,8 @@ Shallow (u ∷ us) = (nesting u + length us ≤ nesting_limit) × Shallow us
 record Made (d : ℕ) (s : Stack) (bs : List ℕ) : Type 0 where
   behind : length s.behind ≡ d
   prints : printed s.chain ++ behind_print s.behind ≡ bs
-  tokens : All TokensObey (s.chain ∷ s.behind)
-  apart : All Apart (s.chain ∷ s.behind)
+  tokens : AllByRecursion TokensObey (s.chain ∷ s.behind)
+  apart : AllByRecursion Apart (s.chain ∷ s.behind)
   shallow : Shallow (s.chain ∷ s.behind)
 
 module _ (n : ℕ) (bs : List ℕ) where

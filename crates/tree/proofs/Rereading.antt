@@ -1,6 +1,6 @@
 -- A well-formed tree's print is accepted, and read as that tree. Assumes nothing.
 use Rattle.std.proofs.Common.{◌≡◌, ℕ, suc, ◌+◌, ◌<◌, ◌≤◌, Bool, true, false, ltb, leb, List, [], ◌∷◌, ◌++◌, length, drop, Some, Ok, Err, Result, sym, refl, ap, ◌∙◌, subst, append_assoc, append-nil, one-add, arith}
-use Rattle.std.specs.List.{prefix_len, AllByRecursion as All}
+use Rattle.std.specs.List.{prefix_len, AllByRecursion}
 use Rattle.std.proofs.ByRecursion.{All-weaker}
 use Rattle.std.proofs.lemmas.List.{length-append, take_at, drop_at}
 use Rattle.std.proofs.lemmas.Bool.{cond-true, cond-false, le-leb, lt-ltb}
@@ -32,7 +32,7 @@ Ends p [] = Unit {0}
 Ends p (x ∷ xs) = p x ≡ false
 
 -- a run is as long as the bytes that pass, where what comes behind does not
-leading_front : (p : ℕ → Bool) (xs ys : List ℕ) → All (λ b. p b ≡ true) xs → Ends p ys → prefix_len p (xs ++ ys) ≡ length xs
+leading_front : (p : ℕ → Bool) (xs ys : List ℕ) → AllByRecursion (λ b. p b ≡ true) xs → Ends p ys → prefix_len p (xs ++ ys) ≡ length xs
 leading_front p [] [] all ends = refl
 leading_front p [] (y ∷ ys) all ends = cond-false (p y) _ _ ends
 leading_front p (x ∷ xs) ys all ends = cond-true (p x) _ _ all.0 ∙ one-add _ ∙ ap suc (leading_front p xs ys all.1 ends)
@@ -45,7 +45,7 @@ abbrev ReadsToken : Kind → ℕ → ℕ → List ℕ → Type 0
 ReadsToken k n p xs = lexeme_at p xs ≡ Ok (Some (record { kind = L.Token k; len = n }))
 
 -- blanks and words
-run_read : (k : Kind) (c : Class) (p : ℕ) (bs ys : List ℕ) → ((q : ℕ) (xs : List ℕ) → lexeme_by c q xs ≡ finished k (run k xs) q) → ((b : ℕ) → class b ≡ c → continues k b ≡ true) → 0 < length bs → All (λ b. class b ≡ c) bs → length bs ≤ token_limit → Ends (continues k) ys → ReadsToken k (length bs) p (bs ++ ys)
+run_read : (k : Kind) (c : Class) (p : ℕ) (bs ys : List ℕ) → ((q : ℕ) (xs : List ℕ) → lexeme_by c q xs ≡ finished k (run k xs) q) → ((b : ℕ) → class b ≡ c → continues k b ≡ true) → 0 < length bs → AllByRecursion (λ b. class b ≡ c) bs → length bs ≤ token_limit → Ends (continues k) ys → ReadsToken k (length bs) p (bs ++ ys)
 run_read k c p [] ys by goes h all fits ends = absurd (omega arith)
 run_read k c p (b ∷ bs) ys by goes h all fits ends =
     ap (λ d. some (lexeme_by d p (b ∷ (bs ++ ys)))) all.0

@@ -1,6 +1,6 @@
 -- How tokens and printed chains begin, and what stops a token before them. Assumes nothing.
 use Rattle.std.proofs.Common.{◌≡◌, ℕ, ◌<◌, Bool, true, false, cond, ◌&&◌, ◌||◌, eqb, leb, List, [], ◌∷◌, ◌++◌, length, Some, sym, refl, ap, ◌∙◌, subst, arith}
-use Rattle.std.specs.List.{AllByRecursion as All}
+use Rattle.std.specs.List.{AllByRecursion}
 use Rattle.std.proofs.lemmas.Bool.{eqb-true}
 use Rattle.syntax.specs.Classes.{class}
 use Rattle.syntax.specs.Lexemes.{Rule, runs_on, Stops}
@@ -29,7 +29,7 @@ pub record Begins (k : Kind) (bs : List ℕ) : Type 0 where
   pub whole : bs ≡ byte ∷ rest
   pub has : class byte ≡ first_class k
 
-begins_all : (k : Kind) (c : Class) (bs : List ℕ) → c ≡ first_class k → 0 < length bs → All (λ b. class b ≡ c) bs → Begins k bs
+begins_all : (k : Kind) (c : Class) (bs : List ℕ) → c ≡ first_class k → 0 < length bs → AllByRecursion (λ b. class b ≡ c) bs → Begins k bs
 begins_all k c [] e h all = absurd (omega arith)
 begins_all k c (b ∷ bs) e h all = record { byte = b; rest = bs; whole = refl; has = all.0 ∙ e }
 
@@ -148,7 +148,7 @@ close_only : (b : ℕ) → class b ≡ C.Close → b ≡ close_byte
 close_only b h = eqb-true b 0x29 (subst (λ c. told c (eqb b 0x28) (eqb b 0x29)) h (class_told b))
 
 -- a list of one byte, which is known
-single : (y : ℕ) (P : ℕ → Type 0) → ((b : ℕ) → P b → b ≡ y) → (xs : List ℕ) → length xs ≡ 1 → All P xs → xs ≡ y ∷ []
+single : (y : ℕ) (P : ℕ → Type 0) → ((b : ℕ) → P b → b ≡ y) → (xs : List ℕ) → length xs ≡ 1 → AllByRecursion P xs → xs ≡ y ∷ []
 single y P only [] h all = absurd (omega arith)
 single y P only (x ∷ []) h all = ap (λ b. b ∷ []) (only x all.0)
 single y P only (x ∷ z ∷ xs) h all = absurd (omega arith)
