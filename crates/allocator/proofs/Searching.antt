@@ -1,15 +1,15 @@
 -- The first clear bit, and how many there are. Assumes nothing.
-use Rattle.std.proofs.Common.{◌≡◌, ℕ, zero, suc, ◌+◌, ◌-◌, ◌*◌, ◌/◌, ◌%◌, ◌^◌, ◌<◌, ◌≤◌, Bool, true, false, cond, not, eqb, ◌≢◌, ◌⊎◌, List, [], ◌∷◌, map, length, get_or, drop, set, replicate, Some, None, count_by, Option, sym, refl, ap, ◌∙◌, subst, inl, inr, ⊎_elim, zero-add, add-one, arith}
+use Rattle.std.proofs.Common.{◌≡◌, ℕ, zero, suc, ◌+◌, ◌-◌, ◌*◌, ◌/◌, ◌%◌, ◌<◌, ◌≤◌, Bool, true, false, cond, not, eqb, ◌⊎◌, List, [], ◌∷◌, length, get_or, drop, set, replicate, Some, None, Option, sym, refl, ap, ◌∙◌, inl, inr, ⊎_elim, zero-add, add-one, arith}
 use native.Mathlib.Nat.{div-eq_of_lt}
-use Rattle.std.specs.List.{range_with_len}
-use Rattle.std.proofs.lemmas.Nat.{pow_pos, div-add-mod', div-mul-add, mod-mul-add, mod_below}
+use Rattle.std.proofs.lemmas.Nat.{pow_pos, div-add-mod', div-mul-add, mod-mul-add}
 use Rattle.std.proofs.lemmas.List.FromFn.{get_or-map-range_with_len}
-use Rattle.std.proofs.lemmas.List.{drop_more, drop_all, at_drop_all, at_drop_more, length-drop, get_or-drop, get_or-replicate, get_or_past, ext_get_or, length-replicate}
+use Rattle.std.proofs.lemmas.List.{at_drop_all, at_drop_more, length-drop, get_or-drop, get_or-replicate, get_or_past, ext_get_or, length-replicate}
 use Rattle.std.proofs.lemmas.List.Sums.{sum_by-cons, sum_by-set, count_by-le-length}
 use Rattle.std.proofs.lemmas.Bool.{cases_lt, false≢true}
 use Rattle.allocator.specs.Allocations.{clear, first_clear, or_else, next_fit}
 use Rattle.allocator.specs.Bitmaps.{bit, bit_at, bits}
-use Rattle.allocator.specs.Packed.{length_bits, get_d_bits}
+use Rattle.allocator.specs.Bounded.{length_bits}
+use Rattle.allocator.proofs.Packed.{get_d_bits}
 
 -- a number that is found lies within, and was clear
 pub record ClearAt (bs : List Bool) (n m : ℕ) : Type 0 where

@@ -1,12 +1,12 @@
 -- Numbers that wait on a stack: what taking one, taking a new one and freeing one keep. Assumes nothing.
-use Rattle.std.proofs.Common.{◌≡◌, ℕ, zero, suc, ◌+◌, ◌-◌, ◌<◌, ◌≤◌, Bool, true, false, not, ◌≢◌, List, [], ◌∷◌, length, get_or, set, sym, refl, ap, ◌∙◌, subst, ⊎_elim, arith}
+use Rattle.std.proofs.Common.{◌≡◌, ℕ, zero, suc, ◌+◌, ◌-◌, ◌<◌, ◌≤◌, true, false, not, ◌≢◌, List, ◌∷◌, length, get_or, set, sym, refl, ap, ◌∙◌, subst, ⊎_elim, arith}
 use Rattle.std.proofs.lemmas.List.{length-set, get_or-set_same, get_or-set_other}
 use Rattle.std.proofs.lemmas.List.Sums.{count_by-le-length}
-use Rattle.std.proofs.lemmas.Bool.{cases_eq, cases_lt, false≢true}
+use Rattle.std.proofs.lemmas.Bool.{cases_lt, false≢true}
 use Rattle.allocator.specs.Allocations.{capacity_limit, clear}
 use Rattle.allocator.specs.Bitmaps.{bits}
 use Rattle.allocator.specs.Stacks.{newest}
-use Rattle.allocator.specs.Packed.{length_bits}
+use Rattle.allocator.specs.Bounded.{length_bits}
 use Rattle.allocator.proofs.Searching.{clear-set, clear_unset}
 
 -- xs has the d numbers that wait, below m, which is the smallest that was never allocated

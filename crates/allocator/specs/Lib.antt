@@ -2,4 +2,4 @@ pub mod Allocations
 pub mod Bitmaps
 pub mod Laws
 pub mod Stacks
-pub mod Packed
+pub mod Bounded

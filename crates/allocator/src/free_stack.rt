@@ -3,8 +3,7 @@ ghost use Rattle.std.specs.Prelude.{◌≡◌, ℕ, ◌+◌, ◌<◌, ◌≤◌,
 ghost use Rattle.allocator.specs.Allocations.{capacity_limit, clear, Allocates, Frees};
 ghost use Rattle.allocator.specs.Bitmaps.{bits};
 ghost use Rattle.allocator.specs.Stacks.{newest, most_recent, rest_of, mark_after, joined_by};
-ghost use Rattle.std.proofs.Common.{arith};
-ghost use Rattle.allocator.specs.Packed.{length_bits};
+ghost use Rattle.allocator.specs.Bounded.{bounded_bits};
 
 use crate::allocator::CellAllocator;
 use crate::bitmap::{WORDS, clear_bit, is_set, set_bit};
@@ -51,7 +50,7 @@ impl FreeStack {
 impl CellAllocator for FreeStack {
     ghost allocated = { λ a. bits a.words a.capacity };
 
-    ghost bounded = { λ a. omega (arith, length_bits a.words a.capacity, a.within) };
+    ghost bounded = { λ a. bounded_bits a.words a.capacity a.within };
 
     fn allocate(&mut self) -> Option<CellIndex>
         ensures allocates { Allocates (bits self.old.words self.old.capacity) result (bits self.new.words self.new.capacity) }

@@ -2,8 +2,7 @@
 ghost use Rattle.std.specs.Prelude.{◌≡◌, ◌+◌, ◌≤◌, min, false, replicate};
 ghost use Rattle.allocator.specs.Allocations.{capacity_limit, clear, Allocates, Frees, next_fit, behind};
 ghost use Rattle.allocator.specs.Bitmaps.{bits};
-ghost use Rattle.std.proofs.Common.{arith};
-ghost use Rattle.allocator.specs.Packed.{length_bits};
+ghost use Rattle.allocator.specs.Bounded.{bounded_bits};
 
 use crate::allocator::CellAllocator;
 use crate::bitmap::{WORDS, clear_bit, find_clear, is_set, set_bit};
@@ -41,7 +40,7 @@ impl NextFitBitmap {
 impl CellAllocator for NextFitBitmap {
     ghost allocated = { λ a. bits a.words a.capacity };
 
-    ghost bounded = { λ a. omega (arith, length_bits a.words a.capacity, a.within) };
+    ghost bounded = { λ a. bounded_bits a.words a.capacity a.within };
 
     // Takes time in proportion to the words that it looks at.
     fn allocate(&mut self) -> Option<CellIndex>

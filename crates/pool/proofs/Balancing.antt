@@ -2,8 +2,8 @@
 use Rattle.std.proofs.Common.{◌≡◌, ℕ, ◌+◌, ◌-◌, ◌<◌, Bool, true, false, cond, ltb, List, [], ◌∷◌, length, get_or, set, is_some, Some, None, Option, sym, refl, ap, ◌∙◌, subst, ⊎_elim, arith}
 use Rattle.std.proofs.lemmas.List.{get_or-set_same, get_or-set_other, get_or_past, length-set, set-set, set-get_or}
 use Rattle.std.proofs.lemmas.List.Sums.{sum_by-cons, sum_by-set, count_by-le-length}
-use Rattle.std.proofs.lemmas.Bool.{cases_eq, cases_lt, false≢true, true≢false, lt-ltb}
-use Rattle.pool.specs.Cells.{live, held, vacant, at, live_number, Puts, Retains, Releases, Tidy}
+use Rattle.std.proofs.lemmas.Bool.{cases_eq, cases_lt, true≢false, lt-ltb}
+use Rattle.pool.specs.Cells.{live, held, vacant, at, live_number, Puts, Releases, Tidy}
 use Rattle.pool.specs.Steps.{Step, puts, retains, releases, Does, Runs, takes, gives_back, taken, given_back}
 use Rattle.pool.proofs.Fitting.{live_within}
 use Rattle.pool.specs.declared.counted.Counted.{Counted}

@@ -1,10 +1,10 @@
 -- An allocator that fits its cells, through puts, retains and releases. Assumes nothing.
-use Rattle.std.proofs.Common.{◌≡◌, ℕ, ◌+◌, ◌-◌, ◌<◌, Bool, true, false, cond, not, ltb, List, [], ◌∷◌, map, length, get_or, set, Some, None, count_by, Option, sym, refl, ap, ◌∙◌, subst, ⊎_elim, arith}
+use Rattle.std.proofs.Common.{◌≡◌, ℕ, ◌+◌, ◌-◌, ◌<◌, Bool, true, false, cond, not, List, [], ◌∷◌, map, length, get_or, set, Some, None, count_by, sym, refl, ap, ◌∙◌, subst, ⊎_elim, arith}
 use Rattle.std.proofs.lemmas.List.{ext_get_or, length-map, get_or-map, map-set, set-get_or, get_or_past}
 use Rattle.std.proofs.lemmas.List.Sums.{sum_by-cons}
 use Rattle.std.proofs.lemmas.Bool.{cases_lt, false≢true, lt-ltb}
 use Rattle.allocator.specs.Allocations.{clear, Allocates, Frees}
-use Rattle.pool.specs.Cells.{live, held, vacant, at, live_number, Fits, Puts, Retains, Releases}
+use Rattle.pool.specs.Cells.{live, held, vacant, at, Fits, Puts, Retains, Releases}
 use Rattle.pool.specs.declared.counted.Counted.{Counted}
 
 -- those that pass and those that do not are all

@@ -11,7 +11,7 @@
 --                    those that are now its slots; a retain makes one; a release spends one, and what a dead cell's slots named
 --                    has outside holders again
 use Rattle.std.specs.Prelude.{◌≡◌, ℕ, ◌+◌, Bool, cond, ◌&&◌, List, [], ◌∷◌, map, Some, None, sum_by, count_by, ◌==◌, slice_index_or}
-use Rattle.pool.specs.Cells.{live, held, vacant, at}
+use Rattle.pool.specs.Cells.{live, held, at}
 use Rattle.pool.specs.Steps.{Step, puts, retains, releases}
 use Rattle.pool.specs.declared.cell.Slot.{Slot}
 use Rattle.pool.specs.declared.counted.Counted.{Counted}

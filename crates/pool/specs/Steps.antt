@@ -4,7 +4,7 @@
 -- Does before s after      the step s leads from the cells before to the cells after, as the pool's contracts say
 -- Runs before ss after     so do the steps ss, in their order
 -- taken ss, given_back ss  how many numbers the steps took from the allocator, and gave back
-use Rattle.std.specs.Prelude.{◌≡◌, ℕ, ◌+◌, List, [], ◌∷◌, Some, None, sum_by, Option}
+use Rattle.std.specs.Prelude.{◌≡◌, ℕ, List, [], ◌∷◌, Some, None, sum_by, Option}
 use Rattle.pool.specs.Cells.{Puts, Retains, Releases}
 use Rattle.pool.specs.declared.counted.Counted.{Counted}
 

@@ -1,7 +1,6 @@
 // A kind of cell for trials: a number, and two slots that may name cells.
-ghost use Rattle.std.specs.Prelude.{[], None};
+ghost use Rattle.std.specs.Prelude.{[], None, refl};
 ghost use Rattle.pool_tests.specs.Pairs.{then};
-ghost use Rattle.std.proofs.Common.{rules};
 
 use pool::{CellKind, Slot};
 
@@ -18,7 +17,7 @@ impl CellKind for Pair {
 
     ghost slots = { λ c. then c.first (then c.second []) };
 
-    ghost names_nothing = { Prim.search rules };
+    ghost names_nothing = { refl };
 
     fn blank() -> Pair {
         Pair {

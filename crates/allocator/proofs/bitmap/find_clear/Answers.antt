@@ -12,13 +12,13 @@ loop-n-preserved-then-words-n c = (
 pub loop-n-preserved : goal.loop-n-preserved
 loop-n-preserved c = (
   omega arith,
-  sym (next_bit c.args.words.now c.loop-n.n c.args.to c.loop-n-test.true (sym c.if-bit-of.ensures)) ∙ c.loop-n.invariant.1,
+  sym (next_bit c.args.words.now c.loop-n.n c.args.to c.loop-n-test.true (sym c.if-bit_of.ensures)) ∙ c.loop-n.invariant.1,
   c.loop-n.invariant.2,
 )
 
-pub returns-else-bit-of : goal.returns-else-bit-of
-returns-else-bit-of c =
-    sym (this_bit c.args.words.now c.loop-n.n c.args.to c.loop-n-test.true (sym c.if-bit-of.ensures)) ∙ c.loop-n.invariant.1
+pub returns-else-bit_of : goal.returns-else-bit_of
+returns-else-bit_of c =
+    sym (this_bit c.args.words.now c.loop-n.n c.args.to c.loop-n-test.true (sym c.if-bit_of.ensures)) ∙ c.loop-n.invariant.1
 
 pub returns : goal.returns
 returns c = sym (no_bit c.args.words.now c.loop-n.n c.args.to c.loop-n-test.false) ∙ c.loop-n.invariant.1

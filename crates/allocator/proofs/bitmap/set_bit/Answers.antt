@@ -1,8 +1,8 @@
-use Rattle.std.proofs.Common.{◌≡◌, ◌/◌, ◌%◌, ◌<◌, length, get_or, set, ap, ◌∙◌, arith, rules}
+use Rattle.std.proofs.Common.{◌/◌, ◌%◌, ◌<◌, length, get_or, set, ap, ◌∙◌, arith, rules}
 use lib.Bits.{bit_or}
 use Rattle.std.proofs.lemmas.Nat.{one_shl, mod_below}
 use Rattle.allocator.specs.Bitmaps.{bits}
-use Rattle.allocator.specs.Packed.{set_one}
+use Rattle.allocator.proofs.Packed.{set_one}
 use Rattle.allocator.proofs.bitmap.set_bit.Goals as goal
 
 pub returns : goal.returns

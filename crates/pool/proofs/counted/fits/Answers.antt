@@ -19,16 +19,16 @@ returns-then-capacity-size g c =
       no = λ fits. absurd (c.if-capacity-size.true (c.capacity-capacity.ensures ∙ ap length fits ∙ length-map c.args.cells.now live));
     }
 
-pub returns-then-is-allocated-is-live : goal.returns-then-is-allocated-is-live
-returns-then-is-allocated-is-live g c =
+pub returns-then-is_allocated-is_live : goal.returns-then-is_allocated-is_live
+returns-then-is_allocated-is_live g c =
     record {
       yes = λ e. absurd (false≢true e);
       no =
           λ fits. absurd
-          (differ c.is-allocated.result c.is-live.result c.if-is-allocated-is-live.true
-          (c.is-allocated.ensures
+          (differ c.is_allocated.result c.is_live.result c.if-is_allocated-is_live.true
+          (c.is_allocated.ensures
           ∙ fits_bit g.C.CellKind.empty c.args.cells.now _ fits c.loop-n.n (omega (arith, c.loop-n-test.true, c.if-capacity-size.false))
-          ∙ sym c.is-live.ensures));
+          ∙ sym c.is_live.ensures));
     }
 
 pub returns : goal.returns

@@ -1,4 +1,4 @@
-use Rattle.std.proofs.Common.{◌≡◌, ◌+◌, length, take, sym, ap, ◌∙◌, arith}
+use Rattle.std.proofs.Common.{◌+◌, take, sym, ap, ◌∙◌, arith}
 use Rattle.std.proofs.lemmas.List.{take_all, length-take-le}
 use Rattle.std.proofs.lemmas.List.Sums.{count_by_more_yes, count_by_more_no, count_by-le-length}
 use Rattle.std.proofs.lemmas.Bool.{lt-ltb, le-ltb}
@@ -6,8 +6,8 @@ use Rattle.pool.specs.Cells.{live, live_number}
 use Rattle.pool.proofs.counted.live_number.Goals as goal
 use Rattle.pool.proofs.counted.live_number.Goals.{then-counted-gt0, else-counted-gt0}
 
-pub overflow-add-number : goal.overflow-add-number
-overflow-add-number g c =
+pub overflow_add-number : goal.overflow_add-number
+overflow_add-number g c =
     omega (arith, c.loop-counted.invariant, count_by-le-length live (take c.loop-counted.counted-index c.args.cells.now), length-take-le c.loop-counted.counted-index c.args.cells.now, c.loop-counted-test.true, c.well_formed.0.0)
 
 pub loop-counted-preserved : goal.loop-counted-preserved

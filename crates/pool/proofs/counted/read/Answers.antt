@@ -4,8 +4,8 @@ use Rattle.pool.specs.Cells.{vacant}
 use Rattle.pool.proofs.Fitting.{live_within}
 use Rattle.pool.proofs.counted.read.Goals as goal
 
-pub offset-bounds-cells-n : goal.offset-bounds-cells-n
-offset-bounds-cells-n g c = omega (arith, live_within g.C.CellKind.empty c.args.cells.now c.args.n c.requires)
+pub offset_bounds-cells-n : goal.offset_bounds-cells-n
+offset_bounds-cells-n g c = omega (arith, live_within g.C.CellKind.empty c.args.cells.now c.args.n c.requires)
 
 pub bounds-cells-n : goal.bounds-cells-n
 bounds-cells-n g c = live_within g.C.CellKind.empty c.args.cells.now c.args.n c.requires

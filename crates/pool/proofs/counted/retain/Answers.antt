@@ -1,4 +1,4 @@
-use Rattle.std.proofs.Common.{◌≡◌, ◌+◌, set, ap, ◌∙◌}
+use Rattle.std.proofs.Common.{◌+◌, set, ap, ◌∙◌}
 use Rattle.pool.specs.Cells.{held, Retains}
 use Rattle.pool.proofs.Fitting.{live_within, fits_retained}
 use Rattle.pool.proofs.counted.retain.Goals as goal

@@ -1,4 +1,4 @@
-use Rattle.std.proofs.Common.{◌≡◌, [], ◌∷◌, ◌++◌, replicate, sym, ap, ◌∙◌, arith}
+use Rattle.std.proofs.Common.{[], ◌∷◌, ◌++◌, ◌∙◌, arith}
 use Rattle.std.proofs.lemmas.List.{length-set, take_more_set, replicate_more, drop-set-lt}
 use Rattle.pool.specs.Cells.{vacant}
 use Rattle.pool.proofs.lent.blank_front.Goals as goal

@@ -1,4 +1,4 @@
-use Rattle.std.proofs.Common.{◌≡◌, ℕ, ◌<◌, ◌≤◌, length, take, drop, replicate}
+use Rattle.std.proofs.Common.{◌≡◌, length, take, drop, replicate}
 use Rattle.pool.specs.Cells.{vacant}
 use Rattle.pool.proofs.lent.blank_front.Given as goal
 

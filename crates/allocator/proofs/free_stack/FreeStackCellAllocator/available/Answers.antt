@@ -1,10 +1,10 @@
-use Rattle.std.proofs.Common.{arith, rules}
+use Rattle.std.proofs.Common.{rules}
 use Rattle.allocator.proofs.Stacked.{waits_of}
 use Rattle.allocator.proofs.Waiting.{shallow}
 use Rattle.allocator.proofs.free_stack.FreeStackCellAllocator.available.Goals as goal
 
-pub overflow-add-result : goal.overflow-add-result
-overflow-add-result c =
+pub overflow_add-result : goal.overflow_add-result
+overflow_add-result c =
     let a = c.args.self.now in
     let low = shallow (waits_of a) in
     let marked = a.marked in

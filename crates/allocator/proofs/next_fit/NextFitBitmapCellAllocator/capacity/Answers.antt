@@ -1,5 +1,5 @@
 use Rattle.std.proofs.Common.{sym}
-use Rattle.allocator.specs.Packed.{length_bits}
+use Rattle.allocator.specs.Bounded.{length_bits}
 use Rattle.allocator.proofs.next_fit.NextFitBitmapCellAllocator.capacity.Goals as goal
 
 pub returns : goal.returns

@@ -1,18 +1,13 @@
 -- Bits packed in words: what setting and clearing one does to all of them. Assumes nothing.
-use Rattle.std.specs.Prelude.{◌≡◌, ℕ, zero, suc, ◌+◌, ◌-◌, ◌*◌, ◌/◌, ◌%◌, ◌^◌, ◌<◌, ◌≤◌, Bool, true, false, ◌≢◌, ◌⊎◌, List, map, length, get_or, ◌==◌, bit_or, bit_xor, nat_eq, slice_index, slice_index_or, slice_set, refl}
-use Rattle.std.proofs.Common.{sym, ap, subst, ◌∙◌, ⊎_elim, add-zero, zero-add, one-mul, arith}
+use Rattle.std.specs.Prelude.{◌≡◌, ℕ, zero, suc, ◌+◌, ◌-◌, ◌*◌, ◌/◌, ◌%◌, ◌^◌, ◌<◌, Bool, true, false, ◌≢◌, List, length, get_or, ◌==◌, bit_or, bit_xor, nat_eq, slice_index, slice_index_or, slice_set, refl}
+use Rattle.std.proofs.Common.{sym, ap, ◌∙◌, ⊎_elim, zero-add, one-mul, arith}
 use Rattle.std.proofs.Math.Nat.{div-eq_of_lt, pow-succ', mul-mod_right}
-use Rattle.std.specs.Int.Bits.{bit_and}
-use Rattle.std.specs.List.{range_with_len}
-use Rattle.std.proofs.lemmas.Nat.{pow_pos, pow-add, pow_below, shl-shr, or_shr, or_mod, xor_shr, xor_mod, and_mask, div-add-mod', mod_below}
-use Rattle.std.proofs.lemmas.List.FromFn.{length-map-range_with_len, get_or-map-range_with_len}
+use Rattle.std.proofs.lemmas.Nat.{pow-add, pow_below, shl-shr, or_shr, or_mod, xor_shr, xor_mod, div-add-mod', mod_below}
+use Rattle.std.proofs.lemmas.List.FromFn.{get_or-map-range_with_len}
 use Rattle.std.proofs.lemmas.List.{length-set, get_or-set_same, get_or-set_other, ext_get_or}
 use Rattle.std.proofs.lemmas.Bool.{cases_eq, cases_order, false≢true}
 use Rattle.allocator.specs.Bitmaps.{bit, bit_at, bits}
-
-pub length_bits : (ws : List ℕ) (m : ℕ) → length (bits ws m) ≡ m
-unfolding bits
-length_bits ws m = length-map-range_with_len (bit_at ws) 0 m
+use Rattle.allocator.specs.Bounded.{length_bits}
 
 pub get_d_bits : (ws : List ℕ) (m i : ℕ) → i < m → slice_index_or (bits ws m) i false ≡ bit_at ws i
 unfolding bits
