@@ -1,17 +1,15 @@
 -- What is live keeps its tree. Assumes nothing.
-use Rattle.std.proofs.Common.{◌≡◌, ℕ, ◌+◌, ◌-◌, ◌<◌, ◌≤◌, true, cond, ltb, List, [], ◌∷◌, length, get_or, take, Some, None, Option, sym, refl, ap, ◌∙◌, subst, ⊎_elim, arith}
+use Rattle.std.proofs.Common.{◌≡◌, ℕ, ◌<◌, true, ltb, List, [], ◌∷◌, Some, None, Option, sym, refl, ap, ◌∙◌, subst, arith}
 use Rattle.syntax.specs.declared.kind.Kind.{Kind}
-use Rattle.tree.specs.Trees.{Tree, nil, token, form, width}
+use Rattle.tree.specs.Trees.{Tree, nil, token, form}
 use Rattle.std.proofs.lemmas.List.{get_or-map}
-use Rattle.pool.specs.Cells.{live, at, held, vacant}
-use Rattle.pool.specs.Counts.{Ledger, page, entry, slot, same, named, mentions}
+use Rattle.pool.specs.Cells.{live, held, vacant}
+use Rattle.pool.specs.Counts.{entry, slot, named}
 use Rattle.pool.specs.declared.cell.Slot.{Slot}
-use Rattle.pool.specs.declared.counted.Counted.{Counted}
 use Rattle.pool.proofs.Counting.{named_cells_are_live}
 use Rattle.pool.proofs.Fitting.{live_within}
 use Rattle.forest.specs.declared.cells.Head.{Head}
 use Rattle.forest.specs.declared.cells.Head.TheVariants as H
-use Rattle.forest.specs.declared.cells.Link.{Link}
 use Rattle.forest.specs.Blanks.{blank_token, blank_link}
 use Rattle.forest.specs.Slots.{tokens, links, then, head_slots}
 use Rattle.forest.specs.States.{State, ledger, link_slots, token_slots, spare, Covers, Kept}

@@ -1,10 +1,10 @@
 -- How holders move with a step on one pool. Assumes nothing.
-use Rattle.std.proofs.Common.{◌≡◌, ℕ, ◌+◌, ◌-◌, ◌<◌, ◌≤◌, Bool, true, false, cond, ◌&&◌, eqb, List, [], ◌∷◌, length, get_or, set, Some, None, Option, sym, refl, ap, ◌∙◌, subst, ⊎_elim, arith}
-use Rattle.std.proofs.lemmas.Bool.{cases_Bool, and_parts, eqb-true, lt-ltb, ltb-true, cases_eq, cases_lt, false≢true, true≢false}
+use Rattle.std.proofs.Common.{◌≡◌, ℕ, ◌+◌, ◌-◌, ◌<◌, ◌≤◌, true, false, cond, eqb, List, [], ◌∷◌, length, get_or, set, Some, None, Option, sym, refl, ap, ◌∙◌, ⊎_elim, arith}
+use Rattle.std.proofs.lemmas.Bool.{cases_Bool, and_parts, eqb-true, lt-ltb, cases_eq, cases_lt, false≢true}
 use Rattle.std.proofs.lemmas.List.{get_or-set_same, get_or-set_other, get_or-map, get_or_past, length-map}
 use Rattle.pool.specs.Cells.{live, held, vacant, at, live_number, Puts, Retains, Releases}
 use Rattle.pool.specs.Steps.{Step, Does, puts, retains, releases}
-use Rattle.pool.specs.Counts.{Ledger, page, entry, named, same, slot, mentions, Counts, spends, makes}
+use Rattle.pool.specs.Counts.{Ledger, page, entry, named, same, slot, mentions, spends, makes}
 use Rattle.pool.specs.declared.cell.Slot.{Slot}
 use Rattle.pool.specs.declared.counted.Counted.{Counted}
 use Rattle.pool.proofs.Counting.{each_step_keeps_the_counts}

@@ -7,7 +7,6 @@ use Rattle.tree.specs.Trees.{Tree, nil, token, form, printed, width}
 use Rattle.notation.proofs.Spelling.{same_further}
 use Rattle.pool.specs.Cells.{live, where_true, contents}
 use Rattle.pool.specs.declared.counted.Counted.{Counted}
-use Rattle.forest.specs.declared.cells.Head.{Head}
 use Rattle.forest.specs.declared.cells.Head.TheVariants as H
 use Rattle.forest.specs.States.{State}
 use Rattle.forest.specs.Unfolding.{link_at, token_at, Spells, IsToken, IsForm, Unfolds, chain_width}

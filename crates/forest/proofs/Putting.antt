@@ -1,5 +1,5 @@
 -- Cells that are put into a forest. Assumes nothing.
-use Rattle.std.proofs.Common.{◌≡◌, ℕ, ◌≤◌, List, [], ◌∷◌, Some, None, Option, refl, arith}
+use Rattle.std.proofs.Common.{ℕ, ◌≤◌, List, Some, None, Option, refl, arith}
 use Rattle.pool.specs.Cells.{Puts}
 use Rattle.pool.specs.Counts.{named}
 use Rattle.pool.specs.declared.cell.Slot.{Slot}

@@ -3,7 +3,7 @@
 -- tokens, links, versions   the numbers of the pools
 -- slot p n                  cell n of pool p
 -- then o ss                 what the option names, where it names something, before ss
-use Rattle.std.specs.Prelude.{ℕ, List, [], ◌∷◌, Some, None, Option}
+use Rattle.std.specs.Prelude.{ℕ, List, ◌∷◌, Some, None, Option}
 use Rattle.pool.specs.Counts.{slot}
 use Rattle.pool.specs.declared.cell.Slot.{Slot}
 use Rattle.forest.specs.declared.cells.Head.{Head}

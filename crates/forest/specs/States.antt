@@ -11,8 +11,8 @@
 -- Grown blank before after       what was live before is live after, and holds what it held
 -- given_up slots r               what the slots of a cell named that has died
 -- died r                         1 where a cell has died
-use Rattle.std.specs.Prelude.{◌≡◌, ℕ, ◌+◌, ◌-◌, ◌≤◌, Bool, true, List, [], ◌∷◌, Some, None, Option}
-use Rattle.pool.specs.Cells.{live, at, Fits}
+use Rattle.std.specs.Prelude.{◌≡◌, ℕ, ◌+◌, ◌-◌, ◌≤◌, true, List, [], ◌∷◌, Some, None, Option}
+use Rattle.pool.specs.Cells.{live, at}
 use Rattle.pool.specs.Counts.{Ledger, page, entry, mentions, named, slot}
 use Rattle.pool.specs.declared.cell.Slot.{Slot}
 use Rattle.pool.specs.declared.counted.Counted.{Counted}

@@ -1,8 +1,7 @@
 // The three kinds of cell: tokens, links and versions.
-ghost use Rattle.std.specs.Prelude.{[]};
+ghost use Rattle.std.specs.Prelude.{[], refl};
 ghost use Rattle.forest.specs.Blanks.{blank_token, blank_link, blank_version};
 ghost use Rattle.forest.specs.Slots.{tokens, links, versions, then, head_slots};
-ghost use Rattle.std.proofs.Common.{rules};
 
 use allocator::CellIndex;
 use pool::{CellKind, PoolId, Slot};
@@ -52,7 +51,7 @@ impl CellKind for TokenCell {
 
     ghost slots = { λ _. [] };
 
-    ghost names_nothing = { Prim.search rules };
+    ghost names_nothing = { refl };
 
     fn blank() -> TokenCell {
         TokenCell {
@@ -72,7 +71,7 @@ impl CellKind for Version {
 
     ghost slots = { λ c. then links c.root (then versions c.older []) };
 
-    ghost names_nothing = { Prim.search rules };
+    ghost names_nothing = { refl };
 
     fn blank() -> Version {
         Version {
@@ -103,7 +102,7 @@ impl CellKind for Link {
 
     ghost slots = { λ c. head_slots c.head (then links c.tail []) };
 
-    ghost names_nothing = { Prim.search rules };
+    ghost names_nothing = { refl };
 
     fn blank() -> Link {
         Link {

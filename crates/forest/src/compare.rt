@@ -52,14 +52,19 @@ impl<'a> Forest<'a> {
             let Some(b) = self.links.get(n) else {
                 return false;
             };
-            let heads = match (a.head, b.head) {
-                (Head::Token(x), Head::Token(y)) => self.same_token(x, y),
-                (Head::Form(x), Head::Form(y)) => self.same(Some(x), Some(y)),
-                (Head::EmptyForm, Head::EmptyForm) => true,
-                _ => false,
-            };
-            if !heads {
-                return false;
+            match (a.head, b.head) {
+                (Head::Token(x), Head::Token(y)) => {
+                    if !self.same_token(x, y) {
+                        return false;
+                    }
+                }
+                (Head::Form(x), Head::Form(y)) => {
+                    if !self.same(Some(x), Some(y)) {
+                        return false;
+                    }
+                }
+                (Head::EmptyForm, Head::EmptyForm) => {}
+                _ => return false,
             }
             one = a.tail;
             other = b.tail;

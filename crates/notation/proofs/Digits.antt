@@ -1,11 +1,11 @@
 -- Numbers at the front of bytes. Assumes nothing.
-use Rattle.std.proofs.Common.{◌≡◌, ℕ, zero, suc, ◌+◌, ◌-◌, ◌*◌, ◌^◌, ◌<◌, ◌≤◌, Bool, true, false, cond, ◌&&◌, List, [], ◌∷◌, ◌++◌, length, get_or, take, drop, Some, None, decimal, Option, sym, refl, ap, ◌∙◌, subst, ⊎_elim, arith, MatchOption}
+use Rattle.std.proofs.Common.{◌≡◌, ℕ, zero, suc, ◌+◌, ◌-◌, ◌*◌, ◌^◌, ◌<◌, ◌≤◌, Bool, true, false, cond, List, [], ◌∷◌, ◌++◌, length, get_or, take, drop, None, decimal, Option, sym, refl, ap, ◌∙◌, subst, ⊎_elim, arith, MatchOption}
 use Rattle.std.specs.Str.Parse.{digits_value}
 use Rattle.std.specs.Char.{is_ascii_digit}
 use Rattle.std.specs.Int.{IsInRange}
 use Rattle.std.specs.List.{prefix_len}
 use Rattle.std.specs.Str.{all_ascii_digits}
-use Rattle.std.proofs.lemmas.List.{append-nil, take_at, drop_at, take_rest, get_or-take, length-take-le}
+use Rattle.std.proofs.lemmas.List.{append-nil, take_at, drop_at, get_or-take, length-take-le}
 use Rattle.std.proofs.lemmas.Str.Parse.{IsNumeralModel, numerals_by_value, tells_all_ascii_digits, digits_value_short}
 use Rattle.std.proofs.lemmas.Int.Digits.{digits_value_more}
 use Rattle.std.proofs.lemmas.Str.{digit_value_digit}
@@ -124,11 +124,6 @@ front_unique bs v w rest other h k = (sym (front_value bs v rest h) ∙ front_va
 -- an answer that is none
 pub none_case : {X A : Type 0} (B : X → Type 0) (r : Option X) → r ≡ None → A → MatchOption r A B
 none_case {A = A} B r e a = subst (λ o. MatchOption o A B) (sym e) a
-
--- bytes by their first
-pub cut_first : (bs : List ℕ) (b : ℕ) → 0 < length bs → get_or bs 0 0 ≡ b → bs ≡ b ∷ take (length bs - 1) (drop 1 bs)
-cut_first [] b some e = absurd (omega (arith, some))
-cut_first (c ∷ cs) b some e = (λ i. e i ∷ sym (take_rest (c ∷ cs) 1) i)
 
 -- no space behind the number that is there
 pub not_spaced : (bs behind : List ℕ) (v : ℕ) → Front bs v behind → ((rest : List ℕ) → behind ≡ 32 ∷ rest → ⊥) → (w : ℕ) (rest : List ℕ) → w < number_bound → bs ≡ spaced w rest → ⊥

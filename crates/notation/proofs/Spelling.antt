@@ -1,6 +1,6 @@
 -- A number that is spelt from its last digit to its first. Assumes nothing.
-use Rattle.std.proofs.Common.{◌≡◌, ℕ, ◌+◌, ◌-◌, ◌/◌, ◌%◌, ◌^◌, ◌<◌, ◌≤◌, List, [], ◌∷◌, ◌++◌, length, get_or, take, drop, set, decimal, sym, ap, ◌∙◌, subst, arith}
-use Rattle.std.proofs.lemmas.List.{append_assoc, append-nil, length-append, length-drop, take-append-drop, take_more, drop_all, drop-set, drop-drop}
+use Rattle.std.proofs.Common.{◌≡◌, ℕ, ◌+◌, ◌-◌, ◌/◌, ◌%◌, ◌^◌, ◌<◌, ◌≤◌, List, [], ◌∷◌, ◌++◌, length, get_or, take, drop, set, decimal, sym, ap, ◌∙◌, arith}
+use Rattle.std.proofs.lemmas.List.{append_assoc, append-nil, length-append, length-drop, take-append-drop, take_more, drop-set, drop-drop}
 use Rattle.notation.specs.Numbers.{numbered}
 use Rattle.std.proofs.lemmas.Fmt.{decimal_digit, decimal_step, decimal_nonempty, length-decimal-le}
 
@@ -28,10 +28,6 @@ module _ (number left first : ℕ) (digits : List ℕ) (small : number < 2 ^ 64)
 
   pub last_one : left < 10 → drop (first - 1) (set digits (first - 1) (48 + left)) ≡ decimal number
   last_one few = put_digit (48 + left) ∙ ap (λ xs. xs ++ drop first digits) (sym (decimal_digit left few)) ∙ h.3
-
-pub nothing_spelt : (number : ℕ) (digits : List ℕ) → length digits ≡ 20 → number < 2 ^ 64 → Spelt number number 20 digits
-nothing_spelt number digits long small =
-    (long, omega arith, small, ap (λ xs. decimal number ++ xs) (drop_all 20 digits (omega (arith, long))) ∙ append-nil (decimal number))
 
 -- one number more behind others
 pub numbered_more : (ns : List ℕ) (i : ℕ) → i < length ns → numbered (take (i + 1) ns) ≡ numbered (take i ns) ++ (32 ∷ decimal (get_or ns i 0))

@@ -1,6 +1,6 @@
 // Numbers of the script language.
 ghost use Rattle.std.specs.Prelude.{◌≡◌, ℕ, ◌<◌, ◌≤◌, true, List, ◌∷◌, length, decimal, MatchOption, ◌≢◌};
-ghost use Rattle.std.specs.Str.Parse.{digits_value as value_of_lem};
+ghost use Rattle.std.specs.Str.Parse.{digits_value};
 ghost use Rattle.std.specs.Char.{is_ascii_digit};
 ghost use Rattle.std.specs.List.{prefix_len};
 ghost use Rattle.std.specs.Str.{all_ascii_digits};
@@ -25,10 +25,11 @@ fn count_digits(bytes: &[u8]) -> usize
     n
 }
 
+#[tactic(auto, using(crate::proofs::Digits::value_below, crate::proofs::Digits::digit_there, crate::proofs::Digits::value_onward))]
 fn value(digits: &[u8]) -> u32
     requires short { length digits.now ≤ 5 }
     requires digits { all_ascii_digits digits.now ≡ true }
-    ensures { result ≡ value_of_lem 10 digits.now }
+    ensures { result ≡ digits_value 10 digits.now }
 {
     let mut value = 0;
     for digit in digits.iter() {
@@ -75,6 +76,7 @@ pub fn spaced_number(bytes: &[u8]) -> Option<(u16, &[u8])>
 }
 
 /// A number that is all of the bytes.
+#[tactic(auto, using(crate::proofs::Digits::no_whole))]
 pub fn whole_number(bytes: &[u8]) -> Option<u16>
     ensures { MatchOption result ((v : ℕ) → v < number_bound → bytes.now ≢ decimal v) (λ v. (v < number_bound) × (bytes.now ≡ decimal v)) }
 {

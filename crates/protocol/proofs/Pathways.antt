@@ -1,16 +1,16 @@
 -- Steps of a path, read one after the other. Assumes nothing.
-use Rattle.std.proofs.Common.{◌≡◌, ℕ, ◌+◌, ◌<◌, ◌≤◌, false, List, [], ◌∷◌, ◌++◌, length, get_or, drop, decimal, sym, refl, ap, ◌∙◌, subst, arith}
-use Rattle.std.specs.List.{AllByRecursion as All}
+use Rattle.std.proofs.Common.{◌≡◌, ℕ, ◌+◌, ◌<◌, ◌≤◌, List, [], ◌∷◌, ◌++◌, length, get_or, drop, decimal, sym, refl, ap, ◌∙◌, subst, arith}
+use Rattle.std.specs.List.{AllByRecursion}
 use Rattle.std.proofs.lemmas.List.{append_assoc, length-append}
 use Rattle.notation.specs.Numbers.{number_bound, Stops, Front, spaced}
 use Rattle.protocol.specs.Commands.{Steps, behind, bracketed}
 use Rattle.notation.proofs.Digits.{front_some, front_unique}
 
-all_mid : (P : ℕ → Type 0) (xs ys : List ℕ) (y : ℕ) → All P (xs ++ (y ∷ ys)) → P y
+all_mid : (P : ℕ → Type 0) (xs ys : List ℕ) (y : ℕ) → AllByRecursion P (xs ++ (y ∷ ys)) → P y
 all_mid P [] ys y h = h.0
 all_mid P (x ∷ xs) ys y h = all_mid P xs ys y h.1
 
-pub all_push : (P : ℕ → Type 0) (xs : List ℕ) (y : ℕ) → All P xs → P y → All P (xs ++ (y ∷ []))
+pub all_push : (P : ℕ → Type 0) (xs : List ℕ) (y : ℕ) → AllByRecursion P xs → P y → AllByRecursion P (xs ++ (y ∷ []))
 all_push P [] y h k = (k, tt)
 all_push P (x ∷ xs) y h k = (h.0, all_push P xs y h.1 k)
 
@@ -32,7 +32,7 @@ module _ (inside done left : List ℕ) (r : Reading inside done left) where
   next_step v vs rest small e =
       let next = r.goes_on v vs rest small e in
       let ws = next.1 in
-      (next.0, ws, next.2, (all_mid (λ s. s < number_bound) done ws next.0 (subst (All (λ s. s < number_bound)) next.2 small.1), next.3, behind_stops ws rest))
+      (next.0, ws, next.2, (all_mid (λ s. s < number_bound) done ws next.0 (subst (AllByRecursion (λ s. s < number_bound)) next.2 small.1), next.3, behind_stops ws rest))
 
   pub no_number : ((v : ℕ) (rest : List ℕ) → Front left v rest → ⊥) → (v : ℕ) (vs rest : List ℕ) → Steps (v ∷ vs) → 40 ∷ inside ≡ bracketed (v ∷ vs) rest → ⊥
   no_number none v vs rest small e = let next = next_step v vs rest small e in none next.0 (behind next.1 rest) next.3
@@ -44,9 +44,6 @@ module _ (inside done left : List ℕ) (r : Reading inside done left) where
       omega (arith, count, small.0, all)
 
   module _ (v : ℕ) (after : List ℕ) (front : Front left v after) where
-    pub closes : (rest : List ℕ) → after ≡ 41 ∷ rest → 40 ∷ inside ≡ bracketed (done ++ (v ∷ [])) rest
-    closes rest e = r.makes v [] rest (front.1 ∙ ap (λ bs. decimal v ++ bs) e)
-
     pub ends_badly : ((rest : List ℕ) → after ≡ 41 ∷ rest → ⊥) → ((rest : List ℕ) → after ≡ 32 ∷ rest → ⊥) → (u : ℕ) (us rest : List ℕ) → Steps (u ∷ us) → 40 ∷ inside ≡ bracketed (u ∷ us) rest → ⊥
     ends_badly no-close no_space u us rest small e =
         let next = next_step u us rest small e in
@@ -76,7 +73,7 @@ module _ (inside done left : List ℕ) (r : Reading inside done left) where
             (x, xs, p ∙ ap (λ y. done ++ (y ∷ x ∷ xs)) (sym same) ∙ sym (append_assoc done (v ∷ []) (x ∷ xs)), ap (drop 1) (sym e ∙ h))
 
 -- further steps and what is behind them are told by the bytes
-behind_unique : (vs ws x y : List ℕ) → All (λ s. s < number_bound) vs → All (λ s. s < number_bound) ws → behind vs x ≡ behind ws y → (vs ≡ ws) × (x ≡ y)
+behind_unique : (vs ws x y : List ℕ) → AllByRecursion (λ s. s < number_bound) vs → AllByRecursion (λ s. s < number_bound) ws → behind vs x ≡ behind ws y → (vs ≡ ws) × (x ≡ y)
 behind_unique [] [] x y h k e = (refl, ap (drop 1) e)
 behind_unique [] (w ∷ ws) x y h k e = absurd (let z : ◌≡◌ {A = ℕ} 41 32 = ap (λ bs. get_or bs 0 0) e in omega (arith, z))
 behind_unique (v ∷ vs) [] x y h k e = absurd (let z : ◌≡◌ {A = ℕ} 32 41 = ap (λ bs. get_or bs 0 0) e in omega (arith, z))

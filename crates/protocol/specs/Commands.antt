@@ -8,7 +8,7 @@
 -- arguments r        what stands between the space after the letter and the last byte
 -- written r          the line, without its line end
 use Rattle.std.specs.Prelude.{ℕ, ◌<◌, ◌≤◌, List, [], ◌∷◌, ◌++◌, length, decimal}
-use Rattle.std.specs.List.{AllByRecursion as All}
+use Rattle.std.specs.List.{AllByRecursion}
 use Rattle.notation.specs.Numbers.{number_bound, spaced}
 
 pub data Request : Type 0 where
@@ -24,7 +24,7 @@ abbrev pub path_limit : ℕ
 path_limit = 16
 
 abbrev pub Steps : List ℕ → Type 0
-Steps p = (length p ≤ path_limit) × All (λ s. s < number_bound) p
+Steps p = (length p ≤ path_limit) × AllByRecursion (λ s. s < number_bound) p
 
 abbrev pub Small : Request → Type 0
 Small (load h t) = h < number_bound

@@ -1,11 +1,10 @@
-use Rattle.std.proofs.Common.{length}
 use Rattle.pool.specs.Cells.{live_number, Fits}
 use Rattle.forest.specs.States.{state_of}
 use Rattle.forest.proofs.Letting.{Going}
 use Rattle.forest.proofs.forest.Forest.+let_go.Given as goal
 
-abbrev pub decreases-let-go : goal.decreases-let-go
-decreases-let-go g l = live_number (state_of l.self.now).links_at
+abbrev pub decreases-let_go : goal.decreases-let_go
+decreases-let_go g l = live_number (state_of l.self.now).links_at
 
 abbrev pub invariant-loop-next : goal.invariant-loop-next
 invariant-loop-next g l =
