@@ -1,7 +1,8 @@
 #!/usr/bin/env python3
 """Brings the names of this repository's definitions, lemmas, fields and ghost values to one spelling: words in snake case, types in
 camel case. The table respell.tsv beside it has each old name with its new one. It rewrites the files of specs/ and proofs/, and in
-src/ the clauses, ghost items and ghost imports; in must-fail/ only edits of specs/. Names of functions, strings and outputs stay.
+src/ each line that is no comment and has no string, since only ghost names have a dash there; in must-fail/ only edits of specs/.
+Names of functions, strings and outputs stay.
 
 usage: respell.py FOLDER      a checkout of this repository
 """

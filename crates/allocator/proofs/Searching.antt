@@ -122,8 +122,8 @@ next_parts : (o : Option ℕ) (bs : List Bool) (n m : ℕ) → first_clear (drop
 next_parts (Some k) bs n m e h = inl (e ∙ sym (ap (λ o. or_else o (first_clear bs 0)) e) ∙ h)
 next_parts None bs n m e h = inr (sym (ap (λ o. or_else o (first_clear bs 0)) e) ∙ h)
 
-pub next_fit-some : (bs : List Bool) (n m : ℕ) → n ≤ length bs → next_fit bs n ≡ Some m → (m < length bs) × (get_or bs m false ≡ false)
-next_fit-some bs n m fits h = ⊎_elim (λ e. found_within bs n m e fits) (λ e. found_within bs 0 m e (omega arith)) (next_parts (first_clear (drop n bs) n) bs n m refl h)
+pub next_fit_some : (bs : List Bool) (n m : ℕ) → n ≤ length bs → next_fit bs n ≡ Some m → (m < length bs) × (get_or bs m false ≡ false)
+next_fit_some bs n m fits h = ⊎_elim (λ e. found_within bs n m e fits) (λ e. found_within bs 0 m e (omega arith)) (next_parts (first_clear (drop n bs) n) bs n m refl h)
 
 pub next_fit_none : (bs : List Bool) (n : ℕ) → next_fit bs n ≡ None → clear bs ≡ 0
 next_fit_none bs n h = by (first_clear (drop n bs) n) h

@@ -1,5 +1,5 @@
 // What a text is: byte classes, tokens, the reader with its faults, positions.
-// The modules are public for the impls that they derive; the names that callers use are all here.
+// The names that callers use are all here.
 #![tactic(auto)]
 
 pub mod census;

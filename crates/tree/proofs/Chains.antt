@@ -39,10 +39,10 @@ form_between (suc s) (token k bs r) h = ap (token k bs) (form_between s r h)
 form_between (suc s) (form i r) h = ap (form i) (form_between s r h)
 
 -- item n, and the items after it
-pub item-then_rest : (n : ℕ) (t : Tree) → take_items 1 (drop_items n t) ⧺ drop_items (suc n) t ≡ drop_items n t
-item-then_rest zero nil = refl
-item-then_rest zero (token k bs r) = refl
-item-then_rest zero (form i r) = refl
-item-then_rest (suc n) nil = refl
-item-then_rest (suc n) (token k bs r) = item-then_rest n r
-item-then_rest (suc n) (form i r) = item-then_rest n r
+pub item_then_rest : (n : ℕ) (t : Tree) → take_items 1 (drop_items n t) ⧺ drop_items (suc n) t ≡ drop_items n t
+item_then_rest zero nil = refl
+item_then_rest zero (token k bs r) = refl
+item_then_rest zero (form i r) = refl
+item_then_rest (suc n) nil = refl
+item_then_rest (suc n) (token k bs r) = item_then_rest n r
+item_then_rest (suc n) (form i r) = item_then_rest n r

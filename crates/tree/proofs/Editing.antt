@@ -6,7 +6,7 @@ use Rattle.tree.specs.Edits.{Leads, followed, chain, before, place, edited}
 use Rattle.tree.specs.Items.{take_items, drop_items, is_form, inner, item}
 use Rattle.tree.specs.Laws.{Reaches}
 use Rattle.tree.specs.Trees.{Tree, form, open_byte, close_byte, printed, width, ◌⧺◌}
-use Rattle.tree.proofs.Chains.{printed-⧺, take-drop_items, form_between, item-then_rest}
+use Rattle.tree.proofs.Chains.{printed-⧺, take-drop_items, form_between, item_then_rest}
 
 -- the bytes of the print from item n of the chain at the path on
 abbrev after : List ℕ → ℕ → Tree → List ℕ
@@ -55,7 +55,7 @@ editing path k n new t h =
 
 -- the bytes from an item on begin with the item's own
 after_item : (path : List ℕ) (k : ℕ) (t : Tree) → after path k t ≡ printed (item k (chain path t)) ++ after path (suc k) t
-after_item [] k t = ap printed (sym (item-then_rest k t)) ∙ printed-⧺ (item k t) (drop_items (suc k) t)
+after_item [] k t = ap printed (sym (item_then_rest k t)) ∙ printed-⧺ (item k t) (drop_items (suc k) t)
 after_item (s ∷ path) k t =
     let i = inner s t in
     let tail = close_byte ∷ printed (drop_items (suc s) t) in

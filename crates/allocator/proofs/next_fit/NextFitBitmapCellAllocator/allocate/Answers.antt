@@ -2,7 +2,7 @@ use Rattle.std.proofs.Common.{◌≡◌, ◌<◌, false, get_or, sym, refl, ap, 
 use Rattle.allocator.specs.Allocations.{Allocates, behind}
 use Rattle.allocator.specs.Bitmaps.{bits}
 use Rattle.allocator.specs.Bounded.{length_bits}
-use Rattle.allocator.proofs.Searching.{next_fit-some, next_fit_none, counts-set}
+use Rattle.allocator.proofs.Searching.{next_fit_some, next_fit_none, counts-set}
 use Rattle.allocator.proofs.next_fit.NextFitBitmapCellAllocator.allocate.Goals as goal
 use Rattle.allocator.proofs.next_fit.NextFitBitmapCellAllocator.allocate.Goals.{In_ok-index}
 
@@ -21,7 +21,7 @@ found : (c : In_ok-index) → (c.in_ok-index.index < c.args.self.now.capacity) �
 found c =
     let a = c.args.self.now in
     let long = length_bits a.words a.capacity in
-    let r = next_fit-some (bits a.words a.capacity) a.next c.in_ok-index.index (omega (arith, a.starts)) (sym c.find.ensures ∙ c.in_ok-index.was) in
+    let r = next_fit_some (bits a.words a.capacity) a.next c.in_ok-index.index (omega (arith, a.starts)) (sym c.find.ensures ∙ c.in_ok-index.was) in
     (omega (arith, r.0), r.1)
 
 pub set_bit-requires : goal.set_bit-requires
