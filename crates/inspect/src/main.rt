@@ -9,9 +9,10 @@ use anyhow::anyhow;
 use input::{read_file, read_stdin};
 use outline::outline;
 use report::{Report, inspect_text, unreadable};
+use std::process::ExitCode;
 use std::{env, io};
 
-fn main(rt: HostRuntime) -> anyhow::Result<()> {
+fn main(rt: HostRuntime) -> anyhow::Result<ExitCode> {
     let mut with_tree = false;
     let mut named = false;
     let mut well_formed = true;
@@ -27,11 +28,12 @@ fn main(rt: HostRuntime) -> anyhow::Result<()> {
     if !named {
         well_formed = inspect(&rt, "<stdin>", read_stdin(&rt), with_tree)?;
     }
-    if well_formed {
-        Ok(())
+    // What is wrong with a file was printed already, so the status is all that is left to say.
+    Ok(if well_formed {
+        ExitCode::SUCCESS
     } else {
-        Err(anyhow!("a file is not well formed"))
-    }
+        ExitCode::FAILURE
+    })
 }
 
 // Prints the report on one file, and its outline where that is wanted, and says whether the file is well formed.
