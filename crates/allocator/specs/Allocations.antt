@@ -8,6 +8,7 @@
 -- behind r n            where a search begins after one that began at n answered r
 -- next_fit bits n       the first number from n on that is not allocated, or else the first of all
 use Rattle.std.specs.Prelude.{◌≡◌, ℕ, suc, ◌+◌, ◌<◌, Bool, true, false, not, List, [], ◌∷◌, length, drop, Some, None, count_by, Option, slice_index_or, slice_set}
+use Rattle.std.specs.Option.{option_or}
 
 abbrev pub capacity_limit : ℕ
 capacity_limit = 4096
@@ -28,13 +29,8 @@ first_clear [] n = None
 first_clear (true ∷ bits) n = first_clear bits (suc n)
 first_clear (false ∷ bits) n = Some n
 
--- the first of two that is there
-abbrev pub or_else : Option ℕ → Option ℕ → Option ℕ
-or_else None o = o
-or_else (Some n) o = Some n
-
 abbrev pub next_fit : List Bool → ℕ → Option ℕ
-next_fit bits n = or_else (first_clear (drop n bits) n) (first_clear bits 0)
+next_fit bits n = option_or (first_clear (drop n bits) n) (first_clear bits 0)
 
 abbrev pub behind : Option ℕ → ℕ → ℕ
 behind None n = n

@@ -2,4 +2,3 @@ pub mod Allocations
 pub mod Bitmaps
 pub mod Laws
 pub mod Stacks
-pub mod Bounded

@@ -1,34 +1,26 @@
 // Laws of every allocator. Each function but the last stands for the theorem in its contract, and does nothing.
-ghost use Rattle.std.specs.Prelude.{◌≡◌, ◌<◌, Bool, true, false, IfSome, MatchOption, ◌≢◌};
+ghost use Rattle.std.specs.Prelude.{◌≡◌, ◌<◌, IfSome, MatchOption, ◌≢◌};
 ghost use Rattle.allocator.specs.Allocations.{clear};
 ghost use Rattle.allocator.specs.Laws.{AllocationTakesOne, FreeGivesOne, CapacityStays, AvailableWhereClear, TwoFree};
 
 use crate::allocator::CellAllocator;
 use crate::limits::CellIndex;
 
-pub fn allocation_takes_one() -> u8
+pub fn allocation_takes_one()
     ensures { AllocationTakesOne }
-{
-    0
-}
+{}
 
-pub fn free_gives_one() -> u8
+pub fn free_gives_one()
     ensures { FreeGivesOne }
-{
-    0
-}
+{}
 
-pub fn capacity_stays() -> u8
+pub fn capacity_stays()
     ensures { CapacityStays }
-{
-    0
-}
+{}
 
-pub fn available_where_clear() -> u8
+pub fn available_where_clear()
     ensures { AvailableWhereClear }
-{
-    0
-}
+{}
 
 /// Takes two numbers and gives them back: they differ, and what is allocated is as before. `None` where two are not to be had;
 /// then too it is as before.

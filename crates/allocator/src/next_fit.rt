@@ -1,36 +1,31 @@
 // An allocator that keeps one bit for each cell, and searches from where it last found one.
-ghost use Rattle.std.specs.Prelude.{◌≡◌, ◌+◌, ◌≤◌, min, false, replicate};
+ghost use Rattle.std.specs.Prelude.{◌≡◌, ◌+◌, ◌≤◌, length, min, false, replicate};
 ghost use Rattle.allocator.specs.Allocations.{capacity_limit, clear, Allocates, Frees, next_fit, behind};
-ghost use Rattle.allocator.specs.Bitmaps.{bits};
-ghost use Rattle.allocator.specs.Bounded.{bounded_bits};
 
 use crate::allocator::CellAllocator;
-use crate::bitmap::{WORDS, clear_bit, find_clear, is_set, set_bit};
-use crate::limits::{CAPACITY_LIMIT, CellCount, CellIndex};
+use crate::bitmap::Bitmap;
+use crate::limits::{CellCount, CellIndex};
 
-/// A bitmap of the allocated cells, in 64-bit words. It hands out the first free number behind the one that it handed out last,
-/// and goes round.
+/// A bitmap of the allocated cells. It hands out the first free number behind the one that it handed out last, and goes round.
 #[derive(Drop)]
 pub struct NextFitBitmap {
-    words: [u64; WORDS],
-    capacity: CellCount,
+    bitmap: Bitmap,
     // where the search begins: behind the number that was allocated last
     next: CellIndex,
     used: CellCount,
-    ghost within: { capacity ≤ capacity_limit },
-    ghost starts: { next ≤ capacity },
-    ghost counts: { clear (bits words capacity) + used ≡ capacity },
+    ghost within: { length bitmap ≤ capacity_limit },
+    ghost starts: { next ≤ length bitmap },
+    ghost counts: { clear bitmap + used ≡ length bitmap },
 }
 
 impl NextFitBitmap {
     /// An allocator of so many numbers, at most 4,096, of which none is allocated.
     pub fn new(size: CellCount) -> NextFitBitmap
-        ensures empty { bits result.words result.capacity ≡ replicate (min size capacity_limit) false }
+        ensures empty { result.bitmap ≡ replicate (min size capacity_limit) false }
         ensures start { result.next ≡ 0 }
     {
         NextFitBitmap {
-            words: [0; WORDS],
-            capacity: size.min(CAPACITY_LIMIT),
+            bitmap: Bitmap::new(size),
             next: 0,
             used: 0,
         }
@@ -38,56 +33,54 @@ impl NextFitBitmap {
 }
 
 impl CellAllocator for NextFitBitmap {
-    ghost allocated = { λ a. bits a.words a.capacity };
+    ghost allocated = { λ a. a.bitmap };
 
-    ghost bounded = { λ a. bounded_bits a.words a.capacity a.within };
+    ghost bounded = { λ a. a.within };
 
     // Takes time in proportion to the words that it looks at.
     fn allocate(&mut self) -> Option<CellIndex>
-        ensures allocates { Allocates (bits self.old.words self.old.capacity) result (bits self.new.words self.new.capacity) }
+        ensures allocates { Allocates self.old.bitmap result self.new.bitmap }
         ensures moves { self.new.next ≡ behind result self.old.next }
-        ensures picks { result ≡ next_fit (bits self.old.words self.old.capacity) self.old.next }
+        ensures picks { result ≡ next_fit self.old.bitmap self.old.next }
     {
         let index = self.find()?;
-        set_bit(&mut self.words, index);
+        self.bitmap.set(index);
         self.next = index + 1;
         self.used += 1;
         Some(index)
     }
 
     fn free(&mut self, index: CellIndex) -> bool
-        ensures frees { Frees (bits self.old.words self.old.capacity) index result (bits self.new.words self.new.capacity) }
+        ensures frees { Frees self.old.bitmap index result self.new.bitmap }
         ensures stays { self.new.next ≡ self.old.next }
     {
-        if !self.is_allocated(index) {
+        if !self.bitmap.clear(index) {
             return false;
         }
-        clear_bit(&mut self.words, index);
         self.used -= 1;
         true
     }
 
     fn capacity(&self) -> CellCount {
-        self.capacity
+        self.bitmap.capacity()
     }
 
     fn is_allocated(&self, index: CellIndex) -> bool {
-        is_set(&self.words, self.capacity, index)
+        self.bitmap.get(index)
     }
 
     fn available(&self) -> CellCount {
-        self.capacity - self.used
+        self.bitmap.capacity() - self.used
     }
 }
 
 impl NextFitBitmap {
     // The first free number from where the search begins, or else from 0.
     fn find(&self) -> Option<CellIndex>
-        ensures { result ≡ next_fit (bits self.now.words self.now.capacity) self.now.next }
+        ensures { result ≡ next_fit self.now.bitmap self.now.next }
     {
-        match find_clear(&self.words, self.next, self.capacity) {
-            Some(index) => Some(index),
-            None => find_clear(&self.words, 0, self.capacity),
-        }
+        self.bitmap
+            .first_clear(self.next)
+            .or_else(|| self.bitmap.first_clear(0))
     }
 }

@@ -22,14 +22,14 @@ module _ (st : State) (covers : Covers st) where
   named_live : (n : ℕ) (s : Slot) → live (link_at st n) ≡ true → 0 < named (link_slots (link_at st n).cell) s → live (entry (ledger st) s) ≡ true
   named_live n s alive names =
       let told : entry (ledger st) (slot links n) ≡ held (link_at st n).count (link_slots (link_at st n).cell) =
-      get_or-map (λ c. held c.count (link_slots c.cell)) st.links_at n (vacant blank_link) (vacant []) (live_within blank_link st.links_at n alive) in
+      get_or-map (λ c. held c.count (link_slots c.cell)) st.links n (vacant blank_link) (vacant []) (live_within blank_link st.links n alive) in
       named_cells_are_live (ledger st) (spare st) (λ u. omega (arith, covers u)) (slot links n) s (ap live told ∙ alive) (subst (λ e. 0 < named e.cell s) (sym told) names)
 
   link_lives : (m : ℕ) → live (entry (ledger st) (slot links m)) ≡ true → live (link_at st m) ≡ true
-  link_lives m alive = sym (ap (ltb 0) (page_count link_slots blank_link st.links_at (ledger st) 1 (omega arith) refl m)) ∙ alive
+  link_lives m alive = sym (ap (ltb 0) (page_count link_slots blank_link st.links (ledger st) 1 (omega arith) refl m)) ∙ alive
 
   token_lives : (m : ℕ) → live (entry (ledger st) (slot tokens m)) ≡ true → live (token_at st m) ≡ true
-  token_lives m alive = sym (ap (ltb 0) (page_count token_slots blank_token st.tokens_at (ledger st) 0 (omega arith) refl m)) ∙ alive
+  token_lives m alive = sym (ap (ltb 0) (page_count token_slots blank_token st.tokens (ledger st) 0 (omega arith) refl m)) ∙ alive
 
   abbrev pub FirstLives : Option ℕ → Type 0
   FirstLives None = Unit {0}
@@ -63,7 +63,7 @@ module _ (st : State) (covers : Covers st) where
     tail_lives (Some m) is =
         link_lives m (named_live n (slot links m) alive (subst (λ tl. 0 < named (head_slots (link_at st n).cell.head (then links tl [])) (slot links m)) (sym is) (behind_head (link_at st n).cell.head m)))
 
-module _ (before after : State) (covers : Covers after) (kept_t : Kept blank_token before.tokens_at after.tokens_at) (kept_l : Kept blank_link before.links_at after.links_at) where
+module _ (before after : State) (covers : Covers after) (kept_t : Kept blank_token before.tokens after.tokens) (kept_l : Kept blank_link before.links after.links) where
   token_stays : (k : Kind) (bs : List ℕ) (hd : Head) → HeadLives after covers hd → IsToken before k bs hd → IsToken after k bs hd
   token_stays k bs (H.Token m) lives is = (lives, subst (λ c. Spells c k bs) (sym (kept_t m lives).1) is.1)
   token_stays k bs (H.Form m) lives is = absurd is

@@ -10,7 +10,7 @@ use Rattle.forest.specs.Blanks.{blank_token, blank_link, blank_version}
 use Rattle.forest.specs.declared.cells.Link.{Link}
 use Rattle.forest.specs.declared.cells.Version.{Version}
 use Rattle.forest.specs.declared.cells.Head.TheVariants as H
-use Rattle.forest.specs.Slots.{tokens, links, versions, then, head_slots}
+use Rattle.forest.specs.Slots.{links, versions, then, head_slots}
 use Rattle.forest.proofs.Moving.{one_held}
 use Rattle.forest.specs.States.{State, link_slots, version_slots, spare, Covers, Moved, Kept}
 
@@ -18,16 +18,19 @@ use Rattle.forest.specs.States.{State, link_slots, version_slots, spare, Covers,
 pub record Going (begin now : State) (first next : Option ℕ) : Type 0 where
   pub covers : Covers now
   pub holders : (s : Slot) → spare now s + named (then links first []) s ≡ spare begin s + named (then links next []) s
-  pub kept_tokens : Kept blank_token begin.tokens_at now.tokens_at
-  pub kept_links : Kept blank_link begin.links_at now.links_at
-  pub versions : now.versions_at ≡ begin.versions_at
-  pub fewer : live_number now.links_at ≤ live_number begin.links_at
+  pub kept_tokens : Kept blank_token begin.tokens now.tokens
+  pub kept_links : Kept blank_link begin.links now.links
+  pub versions : now.versions ≡ begin.versions
+  pub fewer : live_number now.links ≤ live_number begin.links
 
 kept_on : {C : Type 0} (blank : C) (a b c : List (Counted C)) → Kept blank a b → Kept blank b c → Kept blank a c
 kept_on blank a b c first second n alive =
     let later = second n alive in
     let earlier = first n later.0 in
     (earlier.0, later.1 ∙ earlier.1)
+
+pub kept_same : {C : Type 0} (blank : C) {a b : List (Counted C)} → b ≡ a → Kept blank a b
+kept_same blank {a = a} e = subst (Kept blank a) (sym e) (λ n alive. (alive, refl))
 
 -- a cell names itself once
 pub one_self : (p n : ℕ) → named (slot p n ∷ []) (slot p n) ≡ 1
@@ -48,15 +51,15 @@ next_held begin now (Some m) n going held =
 pub goes_on : (begin now then₁ after : State) (first : Option ℕ) (n : ℕ) (tail : Option ℕ) (head : List Slot) →
     Going begin now first (Some n) →
     ((s : Slot) → spare then₁ s + named (slot links n ∷ []) s ≡ spare now s + (named head s + named (then links tail []) s)) →
-    Kept blank_link now.links_at then₁.links_at → then₁.tokens_at ≡ now.tokens_at → then₁.versions_at ≡ now.versions_at → live_number then₁.links_at + 1 ≡ live_number now.links_at →
-    Moved then₁ after (named head) (λ _. 0) → Kept blank_token then₁.tokens_at after.tokens_at → Kept blank_link then₁.links_at after.links_at → after.versions_at ≡ then₁.versions_at → live_number after.links_at ≤ live_number then₁.links_at →
+    Kept blank_link now.links then₁.links → then₁.tokens ≡ now.tokens → then₁.versions ≡ now.versions → live_number then₁.links + 1 ≡ live_number now.links →
+    Moved then₁ after (named head) (λ _. 0) → Kept blank_token then₁.tokens after.tokens → Kept blank_link then₁.links after.links → after.versions ≡ then₁.versions → live_number after.links ≤ live_number then₁.links →
     Going begin after first tail
 goes_on begin now then₁ after first n tail head going moved kept same_tokens same_versions died moved₁ kept_t kept_l same_v fewer =
     record {
       covers = moved₁.0;
       holders = λ s. omega (arith, going.holders s, moved s, moved₁.1 s);
-      kept_tokens = kept_on blank_token begin.tokens_at now.tokens_at after.tokens_at going.kept_tokens (subst (λ cs. Kept blank_token cs after.tokens_at) same_tokens kept_t);
-      kept_links = kept_on blank_link begin.links_at now.links_at after.links_at going.kept_links (kept_on blank_link now.links_at then₁.links_at after.links_at kept kept_l);
+      kept_tokens = kept_on blank_token begin.tokens now.tokens after.tokens going.kept_tokens (subst (λ cs. Kept blank_token cs after.tokens) same_tokens kept_t);
+      kept_links = kept_on blank_link begin.links now.links after.links going.kept_links (kept_on blank_link now.links then₁.links after.links kept kept_l);
       versions = same_v ∙ same_versions ∙ going.versions;
       fewer = omega (arith, fewer, died, going.fewer);
     }
@@ -66,12 +69,6 @@ named_more t ss s = omega (arith, sum_by-cons (λ u. cond {A = ℕ} (same s u) 1
 
 -- what a dead link named is held by whoever released it
 module _ (now after : State) (n : ℕ) (link : Link) (moved : (s : Slot) → spare after s + named (slot links n ∷ []) s ≡ spare now s + named (link_slots link) s) where
-  pub token_held : (t : ℕ) → link.head ≡ H.Token t → 0 < spare after (slot tokens t)
-  token_held t is =
-      let s = slot tokens t in
-      let slots : named (link_slots link) s ≡ named (slot tokens t ∷ then links link.tail []) s = ap (λ h. named (head_slots h (then links link.tail [])) s) is in
-      omega (arith, moved s, slots, named_more (slot tokens t) (then links link.tail []) s, one_self 0 t)
-
   pub form_held : (m : ℕ) → link.head ≡ H.Form m → 0 < spare now (slot links n) → 0 < spare after (slot links m)
   form_held m is held =
       let s = slot links m in
@@ -82,23 +79,9 @@ module _ (now after : State) (n : ℕ) (link : Link) (moved : (s : Slot) → spa
 pub record GoingBack (begin now : State) (first next : Option ℕ) : Type 0 where
   pub covers : Covers now
   pub holders : (s : Slot) → spare now s + named (then versions first []) s ≡ spare begin s + named (then versions next []) s
-  pub kept_tokens : Kept blank_token begin.tokens_at now.tokens_at
-  pub kept_links : Kept blank_link begin.links_at now.links_at
-  pub kept_versions : Kept blank_version begin.versions_at now.versions_at
-
-pub next_version_held : (begin now : State) (first : Option ℕ) (n : ℕ) → GoingBack begin now first (Some n) → IfSome first (λ m. 0 < spare begin (slot versions m)) → 0 < spare now (slot versions n)
-next_version_held begin now None n going held = omega (arith, going.holders (slot versions n), one_self 2 n)
-next_version_held begin now (Some m) n going held =
-    omega (arith, going.holders (slot versions n), one_self 2 n, one_held (spare begin) 2 m held (slot versions n))
-
--- the root of a dead version is held by whoever released it
-pub root_held : (now after : State) (n : ℕ) (version : Version) → ((s : Slot) → spare after s + named (slot versions n ∷ []) s ≡ spare now s + named (version_slots version) s) → (root : Option ℕ) → version.root ≡ root → IfSome root (λ m. 0 < spare after (slot links m))
-root_held now after n version moved None is = tt
-root_held now after n version moved (Some m) is =
-    let s = slot links m in
-    let older = then versions version.older [] in
-    let slots : named (version_slots version) s ≡ named (slot links m ∷ older) s = ap (λ r. named (then links r older) s) is in
-    omega (arith, moved s, slots, named_more (slot links m) older s, one_self 1 m)
+  pub kept_tokens : Kept blank_token begin.tokens now.tokens
+  pub kept_links : Kept blank_link begin.links now.links
+  pub kept_versions : Kept blank_version begin.versions now.versions
 
 named_then : (p : ℕ) (o : Option ℕ) (ss : List Slot) (s : Slot) → named (then p o ss) s ≡ named (then p o []) s + named ss s
 named_then p None ss s = omega arith
@@ -108,14 +91,14 @@ named_then p (Some n) ss s = named_more (slot p n) ss s
 pub goes_back : (begin now then₁ after : State) (first : Option ℕ) (n : ℕ) (version : Version) →
     GoingBack begin now first (Some n) →
     ((s : Slot) → spare then₁ s + named (slot versions n ∷ []) s ≡ spare now s + named (version_slots version) s) →
-    then₁.tokens_at ≡ now.tokens_at → then₁.links_at ≡ now.links_at → Kept blank_version now.versions_at then₁.versions_at →
-    Moved then₁ after (named (then links version.root [])) (λ _. 0) → Kept blank_token then₁.tokens_at after.tokens_at → Kept blank_link then₁.links_at after.links_at → after.versions_at ≡ then₁.versions_at →
+    then₁.tokens ≡ now.tokens → then₁.links ≡ now.links → Kept blank_version now.versions then₁.versions →
+    Moved then₁ after (named (then links version.root [])) (λ _. 0) → Kept blank_token then₁.tokens after.tokens → Kept blank_link then₁.links after.links → after.versions ≡ then₁.versions →
     GoingBack begin after first version.older
 goes_back begin now then₁ after first n version going moved same_tokens same_links kept moved₁ kept_t kept_l same_v =
     record {
       covers = moved₁.0;
       holders = λ s. omega (arith, going.holders s, moved s, moved₁.1 s, named_then links version.root (then versions version.older []) s);
-      kept_tokens = kept_on blank_token begin.tokens_at now.tokens_at after.tokens_at going.kept_tokens (subst (λ cs. Kept blank_token cs after.tokens_at) same_tokens kept_t);
-      kept_links = kept_on blank_link begin.links_at now.links_at after.links_at going.kept_links (subst (λ cs. Kept blank_link cs after.links_at) same_links kept_l);
-      kept_versions = kept_on blank_version begin.versions_at now.versions_at after.versions_at going.kept_versions (subst (Kept blank_version now.versions_at) (sym same_v) kept);
+      kept_tokens = kept_on blank_token begin.tokens now.tokens after.tokens going.kept_tokens (subst (λ cs. Kept blank_token cs after.tokens) same_tokens kept_t);
+      kept_links = kept_on blank_link begin.links now.links after.links going.kept_links (subst (λ cs. Kept blank_link cs after.links) same_links kept_l);
+      kept_versions = kept_on blank_version begin.versions now.versions after.versions going.kept_versions (subst (Kept blank_version now.versions) (sym same_v) kept);
     }

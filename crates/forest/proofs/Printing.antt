@@ -5,7 +5,8 @@ use Rattle.std.proofs.lemmas.List.{append_assoc, append-nil, length-append}
 use Rattle.syntax.specs.declared.kind.Kind.{Kind}
 use Rattle.tree.specs.Trees.{Tree, nil, token, form, printed, width}
 use Rattle.notation.proofs.Spelling.{same_further}
-use Rattle.pool.specs.Cells.{live, where_true, contents}
+use Rattle.std.specs.Bool.{then_some}
+use Rattle.pool.specs.Cells.{live, contents}
 use Rattle.pool.specs.declared.counted.Counted.{Counted}
 use Rattle.forest.specs.declared.cells.Head.TheVariants as H
 use Rattle.forest.specs.States.{State}
@@ -89,10 +90,10 @@ pub record FormThere (st : State) (n : ℕ) (inside : Option ℕ) (u : Tree) : T
   pub of_tail : Unfolds st (link_at st n).cell.tail behind
   pub prints : printed u ≡ (40 ∷ (printed inner ++ (41 ∷ []))) ++ printed behind
 
-pub lives_there : (st : State) (n : ℕ) (u : Tree) → Unfolds st (Some n) u → live (link_at st n) ≡ true
-lives_there st n nil h = absurd h
-lives_there st n (token k bs rest) h = h.0
-lives_there st n (form inner rest) h = h.0
+-- how many bytes a form and what is behind it print to
+pub form_length : (st : State) (n : ℕ) (inside : Option ℕ) (u : Tree) (there : FormThere st n inside u) → length (printed u) ≡ length (printed there.inner) + 2 + length (printed there.behind)
+form_length st n inside u there =
+    omega (arith, ap length there.prints, length-append (40 ∷ (printed there.inner ++ (41 ∷ []))) (printed there.behind), length-append (printed there.inner) (41 ∷ []))
 
 pub token_there : (st : State) (n m : ℕ) (u : Tree) → Unfolds st (Some n) u → (link_at st n).cell.head ≡ H.Token m → TokenThere st n m u
 token_there st n m nil h e = absurd h
@@ -124,13 +125,9 @@ room_left st first next at place before now p =
 pub got : {C : Type 0} (x : Counted C) (c : C) → Some c ≡ contents x → c ≡ x.cell
 got {C = C} x c e = by (live x) e
   where
-    by : (b : Bool) → Some c ≡ where_true b x.cell → c ≡ x.cell
+    by : (b : Bool) → Some c ≡ then_some b x.cell → c ≡ x.cell
     by true h = ap (λ o. unwrap_or o c) h
     by false h = absurd (true≢false (ap is_some h))
-
--- a part of what is left
-pub part_fits : (x y z : List ℕ) (place size : ℕ) → x ≡ y ++ z → place + length x ≤ size → place + length y ≤ size
-part_fits x y z place size e fits = omega (arith, ap length e ∙ length-append y z, fits)
 
 -- the chain behind an item is shorter
 pub shorter : (st : State) (first next : Option ℕ) (t u : Tree) (x : List ℕ) → Unfolds st first t → Unfolds st next u → printed t ≡ x ++ printed u → 0 < length x → chain_width st next < chain_width st first

@@ -9,7 +9,7 @@ use Rattle.forest.specs.Unfolding.{link_at, Unfolds}
 -- a chain that is still live has the tree that it had, whatever else was let go
 abbrev pub LiveChainsKeepTheirTrees : Type 0
 LiveChainsKeepTheirTrees =
-    (before after : State) → Covers after → Kept blank_token before.tokens_at after.tokens_at → Kept blank_link before.links_at after.links_at →
+    (before after : State) → Covers after → Kept blank_token before.tokens after.tokens → Kept blank_link before.links after.links →
     (n : ℕ) (t : Tree) → live (link_at after n) ≡ true → Unfolds before (Some n) t → Unfolds after (Some n) t
 
 -- a chain has at most one tree

@@ -1,6 +1,7 @@
 pub mod Slots
 pub mod Blanks
 pub mod States
+pub mod Pools
 pub mod Unfolding
 pub mod Printing
 pub mod Comparing

@@ -1,7 +1,6 @@
 -- The cells of a forest, and who holds them. Assumes nothing.
 --
--- State            the cells of the three pools
--- state_of f       those of a forest
+-- State            the cells of the three pools, as a forest has them
 -- ledger st        their counts and slots
 -- count st s       the count of the cell that s names
 -- spare st s       its holders that are no slots of live cells
@@ -22,13 +21,8 @@ use Rattle.forest.specs.declared.cells.Version.{Version}
 use Rattle.forest.specs.declared.forest.Forest.{Forest}
 use Rattle.forest.specs.Slots.{links, versions, then, head_slots}
 
-pub record State : Type 0 where
-  pub tokens_at : List (Counted TokenCell)
-  pub links_at : List (Counted Link)
-  pub versions_at : List (Counted Version)
-
-abbrev pub state_of : Forest → State
-state_of f = record { tokens_at = f.tokens.cells.now; links_at = f.links.cells.now; versions_at = f.versions.cells.now }
+abbrev pub State : Type 0
+State = Forest
 
 abbrev pub token_slots : TokenCell → List Slot
 token_slots c = []
@@ -40,7 +34,7 @@ abbrev pub version_slots : Version → List Slot
 version_slots c = then links c.root (then versions c.older [])
 
 abbrev pub ledger : State → Ledger
-ledger st = page token_slots st.tokens_at ∷ page link_slots st.links_at ∷ page version_slots st.versions_at ∷ []
+ledger st = page token_slots st.tokens ∷ page link_slots st.links ∷ page version_slots st.versions ∷ []
 
 abbrev pub count : State → Slot → ℕ
 count st s = (entry (ledger st) s).count

@@ -18,10 +18,10 @@ use Rattle.forest.specs.Blanks.{blank_token, blank_link}
 use Rattle.forest.specs.States.{State}
 
 abbrev pub link_at : State → ℕ → Counted Link
-link_at st n = at blank_link st.links_at n
+link_at st n = at blank_link st.links n
 
 abbrev pub token_at : State → ℕ → Counted TokenCell
-token_at st n = at blank_token st.tokens_at n
+token_at st n = at blank_token st.tokens n
 
 abbrev pub Spells : TokenCell → Kind → List ℕ → Type 0
 Spells c k bs = (0 < c.length) × (c.length ≤ 32) × (c.kind ≡ k) × (take c.length c.bytes ≡ bs) × (length bs ≡ c.length)

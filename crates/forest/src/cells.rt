@@ -1,13 +1,15 @@
 // The three kinds of cell: tokens, links and versions.
-ghost use Rattle.std.specs.Prelude.{[], refl};
+ghost use Rattle.std.specs.Prelude.{◌≡◌, ◌≤◌, [], refl, take};
+ghost use Rattle.std.specs.Option.{option_to_list};
 ghost use Rattle.forest.specs.Blanks.{blank_token, blank_link, blank_version};
-ghost use Rattle.forest.specs.Slots.{tokens, links, versions, then, head_slots};
+ghost use Rattle.forest.specs.Slots.{links, versions, then, head_slots};
 
 use allocator::CellIndex;
 use pool::{CellKind, PoolId, Slot};
 use syntax::Kind;
 
 /// The pools of a forest.
+// By the rule that a slot is a pool's number and a cell's number: a pool knows no kinds of cell above it.
 pub const TOKENS: PoolId = 0;
 
 pub const LINKS: PoolId = 1;
@@ -15,7 +17,8 @@ pub const LINKS: PoolId = 1;
 pub const VERSIONS: PoolId = 2;
 
 /// A token: its kind, its length from 1 to 32, and its bytes; those that are not used are 0.
-#[derive(Clone, Copy)]
+// A cell is copied and has a fixed size, so its bytes are an array with their length beside.
+#[derive(Clone, Copy, PartialEq, Eq, Debug)]
 pub struct TokenCell {
     pub kind: Kind,
     pub length: u8,
@@ -23,15 +26,31 @@ pub struct TokenCell {
 }
 
 /// The first item of a chain: a token, a form by the first link of its chain, or a form with nothing in it.
-#[derive(Clone, Copy)]
+#[derive(Clone, Copy, PartialEq, Eq, Debug)]
 pub enum Head {
     Token(CellIndex),
     Form(CellIndex),
     EmptyForm,
 }
 
+impl Head {
+    /// The cell that it names, if it names one.
+    pub fn slot(self) -> Option<Slot>
+        ensures { option_to_list result ≡ head_slots self [] }
+    {
+        match self {
+            Head::Token(index) => Some(Slot {
+                pool: TOKENS,
+                index,
+            }),
+            Head::Form(index) => Some(Slot { pool: LINKS, index }),
+            Head::EmptyForm => None,
+        }
+    }
+}
+
 /// A chain that is not empty: its first item, the link of the items after it, and how many bytes the chain prints to.
-#[derive(Clone, Copy)]
+#[derive(Clone, Copy, PartialEq, Eq, Debug)]
 pub struct Link {
     pub head: Head,
     pub tail: Option<CellIndex>,
@@ -39,11 +58,21 @@ pub struct Link {
 }
 
 /// A text that was kept: the first link of its chain, the version before it, and how many versions are before it.
-#[derive(Clone, Copy)]
+#[derive(Clone, Copy, PartialEq, Eq, Debug)]
 pub struct Version {
     pub root: Option<CellIndex>,
     pub older: Option<CellIndex>,
     pub steps: u16,
+}
+
+impl TokenCell {
+    /// Its own bytes, without those that are not used.
+    pub fn text(&self) -> &[u8]
+        requires { self.now.length ≤ 32 }
+        ensures { result.now ≡ take self.now.length self.now.bytes }
+    {
+        &self.bytes[..usize::from(self.length)]
+    }
 }
 
 impl CellKind for TokenCell {
@@ -82,18 +111,12 @@ impl CellKind for Version {
     }
 
     fn slot(&self, k: usize) -> Option<Slot> {
-        match (k, self.root, self.older) {
-            (0, Some(index), _) => Some(Slot { pool: LINKS, index }),
-            (0, None, Some(index)) => Some(Slot {
-                pool: VERSIONS,
-                index,
-            }),
-            (1, Some(_), Some(index)) => Some(Slot {
-                pool: VERSIONS,
-                index,
-            }),
-            _ => None,
-        }
+        let root = self.root.map(|index| Slot { pool: LINKS, index });
+        let older = self.older.map(|index| Slot {
+            pool: VERSIONS,
+            index,
+        });
+        root.into_iter().chain(older).nth(k)
     }
 }
 
@@ -113,16 +136,7 @@ impl CellKind for Link {
     }
 
     fn slot(&self, k: usize) -> Option<Slot> {
-        match (k, self.head, self.tail) {
-            (0, Head::Token(index), _) => Some(Slot {
-                pool: TOKENS,
-                index,
-            }),
-            (0, Head::Form(index), _) => Some(Slot { pool: LINKS, index }),
-            (0, Head::EmptyForm, Some(index)) => Some(Slot { pool: LINKS, index }),
-            (1, Head::Token(_), Some(index)) => Some(Slot { pool: LINKS, index }),
-            (1, Head::Form(_), Some(index)) => Some(Slot { pool: LINKS, index }),
-            _ => None,
-        }
+        let tail = self.tail.map(|index| Slot { pool: LINKS, index });
+        self.head.slot().into_iter().chain(tail).nth(k)
     }
 }

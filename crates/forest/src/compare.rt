@@ -1,7 +1,6 @@
 // Whether two chains have the same tree.
 ghost use Rattle.std.specs.Prelude.{◌≡◌, ◌≤◌, true, Decides};
 ghost use Rattle.forest.specs.Comparing.{Alike, Compares, HasTree};
-ghost use Rattle.forest.specs.States.{state_of};
 ghost use Rattle.forest.specs.Unfolding.{token_at};
 ghost use Rattle.pool.specs.Cells.{live};
 
@@ -14,19 +13,15 @@ fn alike(left: TokenCell, right: TokenCell) -> bool
     requires right { right.length ≤ 32 }
     ensures { Decides result (Alike left right) }
 {
-    if left.kind.number() != right.kind.number() || left.length != right.length {
-        return false;
-    }
-    let length = left.length as usize;
-    left.bytes[0..length] == right.bytes[0..length]
+    left.kind == right.kind && left.text() == right.text()
 }
 
 impl<'a> Forest<'a> {
-    // Whether two live token cells are alike.
+    // Whether two live token cells are alike: a derived comparison would look at bytes that are not used.
     fn same_token(&self, left: CellIndex, right: CellIndex) -> bool
-        requires left { (live (token_at (state_of self.now) left) ≡ true) × ((token_at (state_of self.now) left).cell.length ≤ 32) }
-        requires right { (live (token_at (state_of self.now) right) ≡ true) × ((token_at (state_of self.now) right).cell.length ≤ 32) }
-        ensures { Decides result (Alike (token_at (state_of self.now) left).cell (token_at (state_of self.now) right).cell) }
+        requires left { (live (token_at self.now left) ≡ true) × ((token_at self.now left).cell.length ≤ 32) }
+        requires right { (live (token_at self.now right) ≡ true) × ((token_at self.now right).cell.length ≤ 32) }
+        ensures { Decides result (Alike (token_at self.now left).cell (token_at self.now right).cell) }
     {
         let (Some(one), Some(other)) = (self.tokens.get(left), self.tokens.get(right)) else {
             return false;
@@ -36,10 +31,11 @@ impl<'a> Forest<'a> {
 
     /// Whether two chains have the same tree. Chains that begin with the same link are not walked.
     pub fn same(&self, left: Option<CellIndex>, right: Option<CellIndex>) -> bool
-        requires left { HasTree (state_of self.now) left }
-        requires right { HasTree (state_of self.now) right }
-        ensures { Compares (state_of self.now) left right result }
+        requires left { HasTree self.now left }
+        requires right { HasTree self.now right }
+        ensures { Compares self.now left right result }
     {
+        // As in `print`: with `iter::successors`, the proof that the chains end does not close.
         let mut one = left;
         let mut other = right;
         while let (Some(m), Some(n)) = (one, other) {

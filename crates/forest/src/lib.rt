@@ -4,5 +4,6 @@
 pub mod cells;
 mod compare;
 pub mod forest;
+pub mod forest_cell;
 pub mod laws;
 mod walk;

@@ -1,8 +1,5 @@
 // Walks along chains.
-ghost use Rattle.std.specs.Prelude.{◌≡◌, ℕ, ◌+◌, ◌<◌, ◌≤◌, true, List, ◌++◌, length, take, drop};
-ghost use Rattle.pool.specs.Cells.{live};
-ghost use Rattle.forest.specs.States.{state_of};
-ghost use Rattle.forest.specs.Unfolding.{token_at};
+ghost use Rattle.std.specs.Prelude.{◌≡◌, ◌+◌, ◌≤◌, ◌++◌, length, take, drop};
 ghost use Rattle.forest.specs.Printing.{Room, Prints};
 
 use crate::cells::{Head, TokenCell};
@@ -19,15 +16,16 @@ fn print_token(cell: TokenCell, buffer: &mut [u8], at: usize) -> usize
     ensures rest { drop result buffer.new ≡ drop result buffer.old }
     ensures length { length buffer.new ≡ length buffer.old }
 {
-    put_bytes(buffer, at, &cell.bytes[0..cell.length as usize])
+    put_bytes(buffer, at, cell.text())
 }
 
 impl<'a> Forest<'a> {
     /// Puts the bytes of a chain at a place, and answers the place behind them.
     pub fn print(&self, buffer: &mut [u8], at: usize, first: Option<CellIndex>) -> usize
-        requires { Room (state_of self.now) first at buffer.old }
-        ensures { Prints (state_of self.now) first at buffer.old result buffer.new }
+        requires { Room self.now first at buffer.old }
+        ensures { Prints self.now first at buffer.old result buffer.new }
     {
+        // With `iter::successors`, the proof that the chain ends, which only its tree shows, does not close.
         let mut place = at;
         let mut next = first;
         while let Some(n) = next {

@@ -68,7 +68,7 @@ told n m p (Ok qs) y e none ps h =
     let r : p + until n qs ≡ m + until 1 ps = cc in
     omega arith
 told n m p (Err f) y e none ps h =
-    absurd (let q : Err f ≡ Ok (m + until 1 ps) = e ∙ ap (λ r. then r (λ ps. Ok (m + until 1 ps))) h in let z : ◌≡◌ {A = ℕ} 0 1 = cc in omega arith)
+    absurd (let q : Err f ≡ Ok (m + until 1 ps) = e ∙ ap (λ r. then r (λ ps. Ok (m + until 1 ps))) h in cc)
 
 until_nothing : (n : ℕ) → until n [] ≡ 0
 until_nothing zero = refl
@@ -83,10 +83,10 @@ pub going_fault : (start r : Reader) (inside : ℕ) (f : ReadFault) → Going st
 going_fault start r inside f g h = by (left start) (ap (λ x. then x (λ qs. Ok (place_of r + until (length (opens_of r) + 1 - inside) qs))) (sym h) ∙ g.whole)
   where
     by : (y : Result (List Piece) ReadFault) → Err f ≡ then y (λ ps. Ok (place_of start + until 1 ps)) → y ≡ Err f
-    by (Ok ps) e = absurd (let z : ◌≡◌ {A = ℕ} 0 1 = cc in omega arith)
+    by (Ok ps) e = absurd cc
     by (Err g) e = cc
 
 -- both clauses of `form_end`, of a fault
 pub refused_end : (start : Reader) (r : Result ℕ ReadFault) (f : ReadFault) → r ≡ Err f → left start ≡ Err f → record { end : MatchResult r (λ n. (ps : List Piece) → left start ≡ Ok ps → n ≡ place_of start + until 1 ps) (λ g. left start ≡ Err g); within : IfOk r (λ n. place_of start ≤ n) }
-refused_end start (Ok n) f e h = absurd (let z : ◌≡◌ {A = ℕ} 0 1 = cc in omega arith)
+refused_end start (Ok n) f e h = absurd cc
 refused_end start (Err g) f e h = record { end = (let q : f ≡ g = cc in h ∙ ap Err q); within = tt }

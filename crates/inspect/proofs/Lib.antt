@@ -1,4 +1,3 @@
-pub mod Appends
 pub mod Closing
 pub mod Indents
 pub mod Listing

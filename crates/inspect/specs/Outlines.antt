@@ -10,12 +10,13 @@
 -- outlined text       the outline of a text, or its first fault
 -- until n ps          the bytes of ps up to where n forms that are open have been closed
 -- piece_line d p q qs the line for the item that the piece q begins, at place p, inside d forms, before the pieces qs
+-- outline_fault_words e   why a text has no outline, in words
 -- Told e P            P of the fault, where e tells one and not that memory is short
 use Rattle.std.specs.Prelude.{◌≡◌, ℕ, zero, suc, ◌+◌, cond, List, [], ◌∷◌, ◌++◌, length, Ok, Err, string_bytes, codes, decimal, Result, String, ◌==◌}
 use Rattle.std.specs.List.{flat_map}
 use Rattle.std.proofs.Math.Utf8.{encode}
 use Rattle.std.specs.declared.alloc.Global.{Global}
-use Rattle.syntax.specs.Messages.{item_words}
+use Rattle.syntax.specs.Messages.{item_words, fault_words}
 use Rattle.syntax.specs.Census.{depth_after}
 use Rattle.syntax.specs.Reading.{Piece, then}
 use Rattle.syntax.specs.declared.fault.ReadFault.{ReadFault}
@@ -69,6 +70,10 @@ line_by (L.Token k) d p bs qs = token_line d k p bs
 
 abbrev pub piece_line : ℕ → ℕ → Piece → List Piece → List ℕ
 piece_line d p q qs = line_by q.kind d p q.bytes qs
+
+abbrev pub outline_fault_words : OutlineFault → List ℕ
+outline_fault_words Memory = codes "memory is short"
+outline_fault_words (Read f) = fault_words f
 
 abbrev pub Told : OutlineFault → (ReadFault → Type 0) → Type 0
 Told Memory P = Unit {0}

@@ -4,7 +4,8 @@
 -- holds_words b l c     what a text of b bytes and l lines holds, whose census is c
 -- read_words text r     what is said behind the name where reading the text gave r
 -- report_line n text    the line for the file of name n that holds the text, without its line end
-use Rattle.std.specs.Prelude.{ℕ, Bool, cond, ◌&&◌, List, ◌++◌, length, is_ok, Ok, Err, codes, decimal, Result, nat_le}
+-- outcome_words n o     what is said of the file of name n where o came of reading it; nothing is known of the words of a system's error
+use Rattle.std.specs.Prelude.{ℕ, Bool, cond, ◌&&◌, List, ◌++◌, length, is_ok, Some, None, Ok, Err, codes, decimal, Option, Result, nat_le}
 use Rattle.syntax.specs.Census.{census}
 use Rattle.syntax.specs.Faults.{place_of}
 use Rattle.syntax.specs.Limits.{text_limit}
@@ -12,6 +13,9 @@ use Rattle.syntax.specs.Messages.{fault_words, position_words}
 use Rattle.syntax.specs.Positions.{position_at, lines}
 use Rattle.syntax.specs.declared.census.Census.{Census}
 use Rattle.syntax.specs.declared.fault.ReadFault.{ReadFault}
+use Rattle.inspect.specs.declared.report.Complaint.{Complaint}
+use Rattle.inspect.specs.declared.report.Complaint.TheVariants as X
+use Rattle.inspect.specs.declared.report.Holding.{Holding}
 
 abbrev pub well_formed : List ℕ → Bool
 well_formed text = nat_le (length text) text_limit && is_ok (census text)
@@ -27,3 +31,9 @@ read_words text (Err f) = codes ":" ++ (position_words (position_at text (place_
 abbrev pub report_line : List ℕ → List ℕ → List ℕ
 report_line name text =
     name ++ cond (nat_le (length text) text_limit) (read_words text (census text)) (codes ": error: file is longer than 32000 bytes")
+
+abbrev pub outcome_words : List ℕ → Result Holding Complaint → Option (List ℕ)
+outcome_words name (Ok h) = Some (name ++ (codes ": ok: " ++ holds_words h.bytes h.lines h.census))
+outcome_words name (Err (X.Faulty p f)) = Some (name ++ (codes ":" ++ (position_words p ++ (codes ": error: " ++ fault_words f))))
+outcome_words name (Err X.TooLong) = Some (name ++ codes ": error: file is longer than 32000 bytes")
+outcome_words name (Err (X.Unreadable e)) = None

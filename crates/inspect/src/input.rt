@@ -16,6 +16,7 @@ pub fn read_stdin(rt: &HostRuntime) -> io::Result<Vec<u8>> {
 // One byte above the limit is enough to refuse the text.
 fn read_bounded<R: Read + Drop>(heap: Global, source: R) -> io::Result<Vec<u8>> {
     let mut bytes = Vec::new(heap);
+    // `u64::try_from` would have a failure that cannot come.
     source.take(TEXT_LIMIT as u64 + 1).read_to_end(&mut bytes)?;
     Ok(bytes)
 }

@@ -5,29 +5,29 @@ mod input;
 mod outline;
 mod report;
 
-use anyhow::anyhow;
 use input::{read_file, read_stdin};
 use outline::outline;
-use report::{Report, inspect_text, unreadable};
+use report::{Report, inspect_text};
 use std::process::ExitCode;
 use std::{env, io};
 
 fn main(rt: HostRuntime) -> anyhow::Result<ExitCode> {
     let mut with_tree = false;
-    let mut named = false;
-    let mut well_formed = true;
+    // Whether every file so far is well formed; none before the first.
+    let mut so_far = None;
     for argument in env::args(&rt)?.skip(1) {
         let name = argument.as_str();
         if name == "--tree" {
             with_tree = true;
         } else {
-            named = true;
-            well_formed &= inspect(&rt, name, read_file(&rt, name), with_tree)?;
+            let one = inspect(&rt, name, read_file(&rt, name), with_tree)?;
+            so_far = Some(so_far.unwrap_or(true) && one);
         }
     }
-    if !named {
-        well_formed = inspect(&rt, "<stdin>", read_stdin(&rt), with_tree)?;
-    }
+    let well_formed = match so_far {
+        Some(all) => all,
+        None => inspect(&rt, "<stdin>", read_stdin(&rt), with_tree)?,
+    };
     // What is wrong with a file was printed already, so the status is all that is left to say.
     Ok(if well_formed {
         ExitCode::SUCCESS
@@ -46,18 +46,15 @@ fn inspect(
     let text = match bytes {
         Ok(text) => text,
         Err(error) => {
-            let Report { line, .. } = unreadable(rt.alloc(), name, error)?;
-            rt.println(line)?;
+            let report = Report::unreadable(name, error);
+            println!(rt; "{report}")?;
             return Ok(false);
         }
     };
-    let Report { line, well_formed } = inspect_text(rt.alloc(), name, text.as_slice())?;
-    rt.println(line)?;
-    if with_tree && well_formed {
-        match outline(rt.alloc(), text.as_slice()) {
-            Ok(lines) => rt.print(lines)?,
-            Err(_) => return Err(anyhow!("memory is short")),
-        }
+    let report = inspect_text(name, text.as_slice());
+    println!(rt; "{report}")?;
+    if with_tree && report.well_formed() {
+        rt.print(outline(rt.alloc(), text.as_slice())?)?;
     }
-    Ok(well_formed)
+    Ok(report.well_formed())
 }

@@ -1,12 +1,15 @@
 // The outline of a text: a line for each item, indented by the forms around it.
-ghost use Rattle.std.specs.Prelude.{◌≡◌, ◌+◌, ◌≤◌, List, ◌++◌, length, IfOk, Ok, Err, string_bytes, MatchResult, OnOk};
+ghost use Rattle.std.specs.Prelude.{◌≡◌, ◌+◌, ◌≤◌, List, ◌++◌, length, IfOk, Ok, Err, Some, string_bytes, MatchResult};
 ghost use Rattle.syntax.specs.Readers.{place_of, left};
 ghost use Rattle.syntax.specs.Reading.{Piece};
 ghost use Rattle.inspect.specs.declared.outline.OutlineFault.TheVariants.{Memory, Read as of_read};
-ghost use Rattle.inspect.specs.Outlines.{shown_byte, shown, indent, head, token_line, form_line, until, line_by, Told, Outlines};
+ghost use Rattle.inspect.specs.Outlines.{shown_byte, shown, head, until, line_by, Told, Outlines, outline_fault_words};
 
 use std::alloc::{AllocError, Global};
-use syntax::{ItemKind, Kind, LexemeKind, ReadFault, Reader};
+use std::error::Error;
+use std::fmt;
+use std::fmt::Write;
+use syntax::{ItemKind, LexemeKind, ReadFault, Reader};
 
 /// Why a text has no outline: a fault, or memory that is short.
 #[derive(Clone, Copy, PartialEq, Eq, Debug)]
@@ -31,6 +34,19 @@ impl From<ReadFault> for OutlineFault {
     }
 }
 
+impl fmt::Display for OutlineFault {
+    ghost output = { λ e. Some (outline_fault_words e) };
+
+    fn fmt<W: fmt::Write>(&self, f: &mut fmt::Formatter<W>) -> fmt::Result {
+        match self {
+            OutlineFault::Memory => f.write_str("memory is short"),
+            OutlineFault::Read(fault) => fault.fmt(f),
+        }
+    }
+}
+
+impl Error for OutlineFault {}
+
 /// The outline of a text, or its first fault. Reads each form once more for each form around it, so takes time in proportion to
 /// the text and its nesting.
 pub fn outline(heap: Global, text: &[u8]) -> Result<String, OutlineFault>
@@ -45,13 +61,13 @@ pub fn outline(heap: Global, text: &[u8]) -> Result<String, OutlineFault>
             return Ok(out);
         };
         let bytes = &text[place..reader.place()];
-        push_item(heap, &mut out, depth, place, lexeme.kind, bytes, reader)?;
+        push_item(&mut out, depth, place, lexeme.kind, bytes, reader)?;
     }
 }
 
 // The line for the item that a lexeme begins, if it begins one. The reader stands behind the lexeme.
+// Depth and place come along one by one: only here are the kind and the length known that make a `Head` of them.
 fn push_item(
-    heap: Global,
     out: &mut String,
     depth: usize,
     place: usize,
@@ -64,11 +80,25 @@ fn push_item(
 {
     match kind {
         LexemeKind::Open => {
-            let len = form_end(reader)? - place;
-            push_form(heap, out, depth, place, len)?;
+            let head = Head {
+                depth,
+                kind: ItemKind::Form,
+                place,
+                len: form_end(reader)? - place,
+            };
+            writeln!(out, "{head}")?;
         }
         LexemeKind::Close => {}
-        LexemeKind::Token(token) => push_token(heap, out, depth, token, place, bytes)?,
+        LexemeKind::Token(token) => {
+            let head = Head {
+                depth,
+                kind: ItemKind::Token(token),
+                place,
+                len: bytes.len(),
+            };
+            let bytes = Shown(bytes);
+            writeln!(out, "{head} \"{bytes}\"")?;
+        }
     }
     Ok(())
 }
@@ -87,78 +117,61 @@ fn form_end(mut reader: Reader<'_>) -> Result<usize, ReadFault>
     Ok(reader.place())
 }
 
-// One byte of a token, as it stands between quotes.
-fn push_byte(out: &mut String, byte: u8) -> Result<(), AllocError>
-    ensures { OnOk result (string_bytes out.new ≡ string_bytes out.old ++ shown_byte byte) }
-{
-    match byte {
-        b'\n' => out.push_str("\\n"),
-        b'\t' => out.push_str("\\t"),
-        b'"' => out.push_str("\\\""),
-        b'\\' => out.push_str("\\\\"),
-        _ => out.push(byte as char),
+// A byte of a token, as it stands between quotes.
+#[derive(Clone, Copy)]
+struct ShownByte(u8);
+
+impl fmt::Display for ShownByte {
+    ghost output = { λ b. Some (shown_byte b.0) };
+
+    fn fmt<W: fmt::Write>(&self, f: &mut fmt::Formatter<W>) -> fmt::Result {
+        match self.0 {
+            b'\n' => f.write_str("\\n"),
+            b'\t' => f.write_str("\\t"),
+            b'"' => f.write_str("\\\""),
+            b'\\' => f.write_str("\\\\"),
+            byte => f.write_char(char::from(byte)),
+        }
     }
 }
 
-fn push_bytes(out: &mut String, bytes: &[u8]) -> Result<(), AllocError>
-    ensures { OnOk result (string_bytes out.new ≡ string_bytes out.old ++ shown bytes.now) }
-{
-    for byte in bytes {
-        push_byte(out, *byte)?;
+// The bytes of a token, as they stand between quotes.
+#[derive(Clone, Copy)]
+struct Shown<'a>(&'a [u8]);
+
+impl<'a> fmt::Display for Shown<'a> {
+    ghost output = { λ s. Some (shown s.0.now) };
+
+    fn fmt<W: fmt::Write>(&self, f: &mut fmt::Formatter<W>) -> fmt::Result {
+        for byte in self.0 {
+            ShownByte(*byte).fmt(f)?;
+        }
+        Ok(())
     }
-    Ok(())
 }
 
-fn push_indent(out: &mut String, depth: usize) -> Result<(), AllocError>
-    ensures { OnOk result (string_bytes out.new ≡ string_bytes out.old ++ indent depth) }
-{
-    for _level in 0..depth {
-        out.push_str("  ")?;
-    }
-    Ok(())
-}
-
-// The front of an item's line.
-fn push_head(
-    heap: Global,
-    out: &mut String,
+// The front of an item's line: how many forms are around it, its kind, its place and its length.
+#[derive(Clone, Copy)]
+struct Head {
     depth: usize,
     kind: ItemKind,
     place: usize,
     len: usize,
-) -> Result<(), AllocError>
-    ensures { OnOk result (string_bytes out.new ≡ string_bytes out.old ++ head depth kind place len) }
-{
-    push_indent(out, depth)?;
-    let words = format!(in heap; "{kind} {place} {len}")?;
-    out.push_str(words.as_str())
 }
 
-fn push_token(
-    heap: Global,
-    out: &mut String,
-    depth: usize,
-    kind: Kind,
-    place: usize,
-    bytes: &[u8],
-) -> Result<(), AllocError>
-    ensures { OnOk result (string_bytes out.new ≡ string_bytes out.old ++ token_line depth kind place bytes.now) }
-{
-    push_head(heap, out, depth, ItemKind::Token(kind), place, bytes.len())?;
-    out.push_str(" \"")?;
-    push_bytes(out, bytes)?;
-    out.push_str("\"\n")
-}
+impl fmt::Display for Head {
+    ghost output = { λ h. Some (head h.depth h.kind h.place h.len) };
 
-fn push_form(
-    heap: Global,
-    out: &mut String,
-    depth: usize,
-    place: usize,
-    len: usize,
-) -> Result<(), AllocError>
-    ensures { OnOk result (string_bytes out.new ≡ string_bytes out.old ++ form_line depth place len) }
-{
-    push_head(heap, out, depth, ItemKind::Form, place, len)?;
-    out.push_str("\n")
+    fn fmt<W: fmt::Write>(&self, f: &mut fmt::Formatter<W>) -> fmt::Result {
+        let Head {
+            depth,
+            kind,
+            place,
+            len,
+        } = *self;
+        for _level in 0..depth {
+            f.write_str("  ")?;
+        }
+        write!(f, "{kind} {place} {len}")
+    }
 }

@@ -1,59 +1,42 @@
 // Numbers of the script language.
 ghost use Rattle.std.specs.Prelude.{◌≡◌, ℕ, ◌<◌, ◌≤◌, true, List, ◌∷◌, length, decimal, MatchOption, ◌≢◌};
-ghost use Rattle.std.specs.Str.Parse.{digits_value};
 ghost use Rattle.std.specs.Char.{is_ascii_digit};
 ghost use Rattle.std.specs.List.{prefix_len};
 ghost use Rattle.std.specs.Str.{all_ascii_digits};
 ghost use Rattle.notation.specs.Numbers.{number_bound, Front, spaced};
-
-// No number has more digits.
-const DIGITS: usize = 5;
-
-const GREATEST: u32 = 65_535;
-// A number that begins with a zero is that digit alone.
-const ZERO_ALONE: usize = 1;
 
 // How many digits stand at the front.
 fn count_digits(bytes: &[u8]) -> usize
     ensures run { result ≡ prefix_len is_ascii_digit bytes.now }
     ensures within { result ≤ length bytes.now }
 {
-    let mut n = 0;
-    while n < bytes.len() && bytes[n].is_ascii_digit() {
-        n += 1;
-    }
-    n
+    bytes
+        .iter()
+        .take_while(|byte| byte.is_ascii_digit())
+        .count()
 }
 
-#[tactic(auto, using(crate::proofs::Digits::value_below, crate::proofs::Digits::digit_there, crate::proofs::Digits::value_onward))]
-fn value(digits: &[u8]) -> u32
-    requires short { length digits.now ≤ 5 }
-    requires digits { all_ascii_digits digits.now ≡ true }
-    ensures { result ≡ digits_value 10 digits.now }
+// The number that digits spell.
+#[tactic(auto, using(crate::proofs::Digits::zero_alone, crate::proofs::Digits::digits_utf8, crate::proofs::Digits::read_so))]
+fn value(digits: &[u8]) -> Option<u16>
+    requires { all_ascii_digits digits.now ≡ true }
+    ensures { MatchOption result ((v : ℕ) → v < number_bound → digits.now ≢ decimal v) (λ v. (v < number_bound) × (digits.now ≡ decimal v)) }
 {
-    let mut value = 0;
-    for digit in digits.iter() {
-        value = value * 10 + (*digit - b'0') as u32;
+    match digits {
+        // A number that begins with a zero is that digit alone.
+        [b'0', _, ..] => None,
+        _ => str::from_utf8(digits).ok()?.parse().ok(),
     }
-    value
 }
 
 /// The number at the front of some bytes, and the bytes behind it.
+#[tactic(auto, using(crate::proofs::Digits::front_digits, crate::proofs::Digits::front_number, crate::proofs::Digits::no_front))]
 pub fn number(bytes: &[u8]) -> Option<(u16, &[u8])>
     ensures { MatchOption result ((v : ℕ) (rest : List ℕ) → Front bytes.now v rest → ⊥) (λ p. Front bytes.now p.0 p.1.now) }
 {
-    let size = count_digits(bytes);
-    if size == 0 || size > DIGITS {
-        return None;
-    }
-    if bytes[0] == b'0' && size > ZERO_ALONE {
-        return None;
-    }
-    let value = value(&bytes[0..size]);
-    if value > GREATEST {
-        return None;
-    }
-    Some((value as u16, &bytes[size..]))
+    let (digits, rest) = bytes.split_at(count_digits(bytes));
+    let value = value(digits)?;
+    Some((value, rest))
 }
 
 /// The bytes behind one that has to come first.
@@ -76,10 +59,12 @@ pub fn spaced_number(bytes: &[u8]) -> Option<(u16, &[u8])>
 }
 
 /// A number that is all of the bytes.
-#[tactic(auto, using(crate::proofs::Digits::no_whole))]
+#[tactic(auto, using(crate::proofs::Digits::no_whole, crate::proofs::Digits::is_whole, crate::proofs::Digits::not_whole))]
 pub fn whole_number(bytes: &[u8]) -> Option<u16>
     ensures { MatchOption result ((v : ℕ) → v < number_bound → bytes.now ≢ decimal v) (λ v. (v < number_bound) × (bytes.now ≡ decimal v)) }
 {
-    let (value, behind) = number(bytes)?;
-    if behind.is_empty() { Some(value) } else { None }
+    match number(bytes)? {
+        (value, []) => Some(value),
+        _ => None,
+    }
 }

@@ -1,10 +1,10 @@
 -- An allocator that fits its cells, through puts, retains and releases. Assumes nothing.
-use Rattle.std.proofs.Common.{◌≡◌, ℕ, ◌+◌, ◌-◌, ◌<◌, Bool, true, false, cond, not, List, [], ◌∷◌, map, length, get_or, set, Some, None, count_by, sym, refl, ap, ◌∙◌, subst, ⊎_elim, arith}
+use Rattle.std.proofs.Common.{◌≡◌, ℕ, ◌+◌, ◌<◌, Bool, true, false, cond, not, List, [], ◌∷◌, map, length, get_or, set, Some, None, count_by, sym, refl, ap, ◌∙◌, ⊎_elim, arith}
 use Rattle.std.proofs.lemmas.List.{ext_get_or, length-map, get_or-map, map-set, set-get_or, get_or_past}
 use Rattle.std.proofs.lemmas.List.Sums.{sum_by-cons}
-use Rattle.std.proofs.lemmas.Bool.{cases_lt, false≢true, lt-ltb}
+use Rattle.std.proofs.lemmas.Bool.{cases_lt, false≢true}
 use Rattle.allocator.specs.Allocations.{clear, Allocates, Frees}
-use Rattle.pool.specs.Cells.{live, held, vacant, at, Fits, Puts, Retains, Releases}
+use Rattle.pool.specs.Cells.{live, held, vacant, at, Fits, Puts}
 use Rattle.pool.specs.declared.counted.Counted.{Counted}
 
 -- those that pass and those that do not are all
@@ -40,33 +40,16 @@ module _ {C : Type 0} (blank : C) where
   pub full_put : (cs : List (Counted C)) (bits : List Bool) (c : C) → Fits bits cs → clear bits ≡ 0 → Puts blank cs c None cs
   full_put cs bits c fits none = (omega (arith, passed live cs, ap clear fits, none), refl)
 
-  pub taken_within : (cs : List (Counted C)) (before after : List Bool) (n : ℕ) → Fits before cs → Allocates before (Some n) after → n < length cs
-  taken_within cs before after n fits h = omega (arith, h.0, ap length fits, length-map cs live)
-
-  -- a number that was taken is put
-  pub taken_put : (cs : List (Counted C)) (before after : List Bool) (n : ℕ) (c : C) → Fits before cs → Allocates before (Some n) after → Puts blank cs c (Some n) (set cs n (held 1 c))
-  taken_put cs before after n c fits h =
-      let within = taken_within cs before after n fits h in
-      (within, sym (fits_bit cs before fits n within) ∙ h.1, refl)
-
   pub fits_put : (cs : List (Counted C)) (before after : List Bool) (n : ℕ) (c : C) → Fits before cs → Allocates before (Some n) after → Fits after (set cs n (held 1 c))
   fits_put cs before after n c fits h = h.2 ∙ ap (λ bs. set bs n true) fits ∙ sym (map-set live cs n (held 1 c))
 
   -- a live cell that stays live
-  fits_kept : (cs : List (Counted C)) (bits : List Bool) (n : ℕ) (x : Counted C) → live x ≡ true → live (at blank cs n) ≡ true → Fits bits cs → Fits bits (set cs n x)
+  pub fits_kept : (cs : List (Counted C)) (bits : List Bool) (n : ℕ) (x : Counted C) → live x ≡ true → live (at blank cs n) ≡ true → Fits bits cs → Fits bits (set cs n x)
   fits_kept cs bits n x stays alive fits =
       sym (set-get_or bits n false) ∙ (λ i. set (fits i) n ((live_bit cs bits n fits alive ∙ sym stays) i)) ∙ sym (map-set live cs n x)
 
-  pub fits_retained : (before after : List (Counted C)) (n : ℕ) → Retains blank before n after → (bits : List Bool) → Fits bits before → Fits bits after
-  fits_retained before after n h bits fits =
-      subst (Fits bits) (sym h.1) (fits_kept before bits n _ (lt-ltb 0 ((at blank before n).count + 1) (omega arith)) h.0 fits)
-
-  pub fits_released : (before after : List (Counted C)) (n : ℕ) → Releases blank before n None after → (bits : List Bool) → Fits bits before → Fits bits after
-  fits_released before after n h bits fits =
-      subst (Fits bits) (sym h.1)
-      (fits_kept before bits n _ (lt-ltb 0 ((at blank before n).count - 1) (omega (arith, h.0))) (lt-ltb 0 (at blank before n).count (omega (arith, h.0))) fits)
-
   -- a live cell that dies, and is given back
-  pub fits_freed : (before after : List (Counted C)) (n : ℕ) (c : C) (bits later : List Bool) (r : Bool) → Releases blank before n (Some c) after → Fits bits before → Frees bits n r later → Fits later after
-  fits_freed before after n c bits later true h fits f = f.1 ∙ ap (λ bs. set bs n false) fits ∙ sym (map-set live before n (vacant blank)) ∙ ap (map live) (sym h.1)
-  fits_freed before after n c bits later false h fits f = absurd (false≢true (sym f.0 ∙ live_bit before bits n fits (ap live h.0)))
+  pub fits_freed : (cs : List (Counted C)) (bits later : List Bool) (n : ℕ) (x : Counted C) (r : Bool) → live x ≡ false → live (at blank cs n) ≡ true → Fits bits cs → Frees bits n r later → Fits later (set cs n x)
+  fits_freed cs bits later n x true dies alive fits f =
+      f.1 ∙ (λ i. set (fits i) n (sym dies i)) ∙ sym (map-set live cs n x)
+  fits_freed cs bits later n x false dies alive fits f = absurd (false≢true (sym f.0 ∙ live_bit cs bits n fits alive))

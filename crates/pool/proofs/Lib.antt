@@ -1,3 +1,4 @@
 pub mod Fitting
 pub mod Balancing
 pub mod Counting
+pub mod Filling

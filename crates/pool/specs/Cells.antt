@@ -12,6 +12,7 @@
 -- Releases blank before n r after   what releasing cell n does: the cell where it dies, and the cells after
 -- Tidy blank cs      cells that are not live are blank
 use Rattle.std.specs.Prelude.{◌≡◌, ℕ, ◌+◌, ◌-◌, ◌<◌, Bool, true, false, List, map, length, Some, None, count_by, Option, nat_lt, slice_index_or, slice_set}
+use Rattle.std.specs.Bool.{then_some}
 use Rattle.pool.specs.declared.counted.Counted.{Counted}
 
 abbrev pub live : {C : Type 0} → Counted C → Bool
@@ -26,12 +27,8 @@ vacant blank = held 0 blank
 abbrev pub at : {C : Type 0} → C → List (Counted C) → ℕ → Counted C
 at blank cs n = slice_index_or cs n (vacant blank)
 
-abbrev pub where_true : {C : Type 0} → Bool → C → Option C
-where_true true c = Some c
-where_true false c = None
-
 abbrev pub contents : {C : Type 0} → Counted C → Option C
-contents c = where_true (live c) c.cell
+contents c = then_some (live c) c.cell
 
 abbrev pub live_number : {C : Type 0} → List (Counted C) → ℕ
 live_number cs = count_by live cs

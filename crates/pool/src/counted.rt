@@ -1,9 +1,11 @@
-// Counted cells in a slice: one is put, retained or released.
-ghost use Rattle.std.specs.Prelude.{◌≡◌, ◌+◌, ◌^◌, ◌<◌, Bool, true, List, length, slice_set};
-ghost use Rattle.pool.specs.Cells.{live, at, contents, live_number, Fits, Puts, Retains, Releases};
+// Counted cells in a slice: one is put, retained or released. That the allocator fits is required call by call, since slice and
+// allocator are lent apart; a `FittedPool` owns both, and asks it once.
+ghost use Rattle.std.specs.Prelude.{◌≡◌, ◌+◌, ◌^◌, ◌<◌, Bool, true, List};
+ghost use Rattle.pool.specs.Cells.{live, at, vacant, contents, live_number, Fits, Puts, Retains, Releases};
 
 use crate::cell::CellKind;
 use allocator::{CellAllocator, CellIndex};
+use std::mem;
 
 /// How many holders a cell has.
 pub type HolderCount = u16;
@@ -12,66 +14,66 @@ pub type HolderCount = u16;
 const LAST_HOLDER: HolderCount = 1;
 
 /// A cell with the number of its holders. It is live where there is one.
-#[derive(Clone, Copy)]
+#[derive(Clone, Copy, PartialEq, Eq, Debug)]
 pub struct Counted<C> {
     pub count: HolderCount,
     pub cell: C,
 }
 
+impl<C> Counted<C> {
+    /// Whether the cell has a holder.
+    pub fn is_live(&self) -> bool
+        ensures { result ≡ live self.now }
+    {
+        self.count > 0
+    }
+}
+
+impl<C: CellKind> Counted<C> {
+    /// A blank cell that nobody holds.
+    pub fn vacant() -> Counted<C>
+        ensures { result ≡ vacant C.CellKind.empty }
+    {
+        Counted {
+            count: 0,
+            cell: C::blank(),
+        }
+    }
+}
+
+// Where a cell is written, and in `fits`, a number is cast by `as`: behind `usize::from` these get no proof.
+
 /// Whether a cell is live; no number past the end is.
 pub fn is_live<C: CellKind>(cells: &[Counted<C>], n: CellIndex) -> bool
     ensures { result ≡ live (at C.CellKind.empty cells.now n) }
 {
-    let n = n as usize;
-    n < cells.len() && cells[n].count > 0
+    cells
+        .get(usize::from(n))
+        .is_some_and(|counted| counted.is_live())
 }
 
 /// How many holders a cell has; 0 for a number past the end.
 pub fn count<C: CellKind>(cells: &[Counted<C>], n: CellIndex) -> HolderCount
     ensures { result ≡ (at C.CellKind.empty cells.now n).count }
 {
-    let n = n as usize;
-    if n < cells.len() { cells[n].count } else { 0 }
-}
-
-// The cell of a live number, with its count.
-fn read<C: CellKind>(cells: &[Counted<C>], n: CellIndex) -> Counted<C>
-    requires { live (at C.CellKind.empty cells.now n) ≡ true }
-    ensures { result ≡ at C.CellKind.empty cells.now n }
-{
-    cells[n as usize]
-}
-
-// Writes one cell.
-fn store<C: CellKind>(cells: &mut [Counted<C>], n: CellIndex, counted: Counted<C>)
-    requires { n < length cells.old }
-    ensures { cells.new ≡ slice_set cells.old n counted }
-{
-    cells[n as usize] = counted;
+    cells.get(usize::from(n)).map_or(0, |counted| counted.count)
 }
 
 /// A copy of a live cell.
 pub fn get<C: CellKind>(cells: &[Counted<C>], n: CellIndex) -> Option<C>
     ensures { result ≡ contents (at C.CellKind.empty cells.now n) }
 {
-    if is_live(cells, n) {
-        Some(read(cells, n).cell)
-    } else {
-        None
-    }
+    cells
+        .get(usize::from(n))
+        .filter(|counted| counted.is_live())
+        .map(|counted| counted.cell)
 }
 
 /// How many cells are live.
 pub fn live_number<C: CellKind>(cells: &[Counted<C>]) -> usize
     ensures { result ≡ live_number cells.now }
 {
-    let mut number = 0;
-    for counted in cells.iter() {
-        if counted.count > 0 {
-            number += 1;
-        }
-    }
-    number
+    cells.iter().filter(|counted| counted.is_live()).count()
 }
 
 /// Whether an allocator fits the cells: it has as many numbers, and has allocated exactly the live ones.
@@ -81,15 +83,8 @@ pub fn fits<C: CellKind, A: CellAllocator>(cells: &[Counted<C>], allocator: &A) 
 {
     let capacity = allocator.capacity();
     let size = cells.len();
-    if capacity as usize != size {
-        return false;
-    }
-    for n in 0..capacity {
-        if allocator.is_allocated(n) != is_live(cells, n) {
-            return false;
-        }
-    }
-    true
+    capacity as usize == size
+        && (0..capacity).all(|n| allocator.is_allocated(n) == is_live(cells, n))
 }
 
 /// Takes a number from the allocator and stores the cell there, with one holder; `None` where all are taken.
@@ -103,23 +98,19 @@ pub fn put<C: CellKind, A: CellAllocator>(
     ensures fits { Fits (A.CellAllocator.allocated allocator.new) cells.new }
 {
     let index = allocator.allocate()?;
-    store(cells, index, Counted { count: 1, cell });
+    cells[index as usize] = Counted { count: 1, cell };
     Some(index)
 }
 
 /// One holder more for a live cell.
+// That the cell is live, here and in `release`, is a fact of the call and of no value: whoever holds it knows.
 pub fn retain<C: CellKind>(cells: &mut [Counted<C>], n: CellIndex)
     requires alive { live (at C.CellKind.empty cells.old n) ≡ true }
     requires room { (at C.CellKind.empty cells.old n).count + 1 < 2 ^ 16 }
     ensures retains { Retains C.CellKind.empty cells.old n cells.new }
     ensures fits { (bits : List Bool) → Fits bits cells.old → Fits bits cells.new }
 {
-    let Counted { count, cell } = read(cells, n);
-    let more = Counted {
-        count: count + 1,
-        cell,
-    };
-    store(cells, n, more);
+    cells[n as usize].count += 1;
 }
 
 /// One holder less for a live cell. A cell that has none left is blanked, its number goes back to the allocator, and what it held is
@@ -134,20 +125,12 @@ pub fn release<C: CellKind, A: CellAllocator>(
     ensures releases { Releases C.CellKind.empty cells.old n result cells.new }
     ensures fits { Fits (A.CellAllocator.allocated allocator.new) cells.new }
 {
-    let Counted { count, cell } = read(cells, n);
-    if count > LAST_HOLDER {
-        let less = Counted {
-            count: count - 1,
-            cell,
-        };
-        store(cells, n, less);
+    let counted = &mut cells[n as usize];
+    if counted.count > LAST_HOLDER {
+        counted.count -= 1;
         return None;
     }
-    let vacant = Counted {
-        count: 0,
-        cell: C::blank(),
-    };
-    store(cells, n, vacant);
+    let died = mem::replace(counted, Counted::vacant());
     let _freed = allocator.free(n);
-    Some(cell)
+    Some(died.cell)
 }

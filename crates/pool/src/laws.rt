@@ -7,41 +7,29 @@ use crate::cell::CellKind;
 use crate::counted::{Counted, put, release};
 use allocator::CellAllocator;
 
-pub fn each_step_keeps_the_counts<C: CellKind>() -> u8
+pub fn each_step_keeps_the_counts<C: CellKind>()
     ensures { EachStepKeepsTheCounts C.CellKind.slots C.CellKind.empty }
-{
-    0
-}
+{}
 
-pub fn named_cells_are_live() -> u8
+pub fn named_cells_are_live()
     ensures { NamedCellsAreLive }
-{
-    0
-}
+{}
 
-pub fn nobody_holds_a_dead_cell() -> u8
+pub fn nobody_holds_a_dead_cell()
     ensures { NobodyHoldsADeadCell }
-{
-    0
-}
+{}
 
-pub fn live_cells_balance<C: CellKind>() -> u8
+pub fn live_cells_balance<C: CellKind>()
     ensures { LiveCellsBalance C.CellKind.empty }
-{
-    0
-}
+{}
 
-pub fn dead_cells_stay_blank<C: CellKind>() -> u8
+pub fn dead_cells_stay_blank<C: CellKind>()
     ensures { DeadCellsStayBlank C.CellKind.empty }
-{
-    0
-}
+{}
 
-pub fn new_pools_count_and_fit<C: CellKind>() -> u8
+pub fn new_pools_count_and_fit<C: CellKind>()
     ensures { NewPoolsCountAndFit C.CellKind.slots C.CellKind.empty }
-{
-    0
-}
+{}
 
 /// Puts a cell and lets it go again, where there is room: every cell is as it was, and so is what is allocated.
 pub fn put_and_release<C: CellKind, A: CellAllocator>(

@@ -3,9 +3,11 @@
 
 pub mod cell;
 pub mod counted;
+mod fitted;
 pub mod laws;
 mod lent;
 
 pub use cell::{CellKind, PoolId, Slot};
 pub use counted::{Counted, HolderCount};
+pub use fitted::FittedPool;
 pub use lent::Pool;

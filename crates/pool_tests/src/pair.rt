@@ -1,6 +1,6 @@
 // A kind of cell for trials: a number, and two slots that may name cells.
-ghost use Rattle.std.specs.Prelude.{[], None, refl};
-ghost use Rattle.pool_tests.specs.Pairs.{then};
+ghost use Rattle.std.specs.Prelude.{◌++◌, None, refl};
+ghost use Rattle.std.specs.Option.{option_to_list};
 
 use pool::{CellKind, Slot};
 
@@ -15,7 +15,7 @@ pub struct Pair {
 impl CellKind for Pair {
     ghost empty = { record { number = 0; first = None; second = None } };
 
-    ghost slots = { λ c. then c.first (then c.second []) };
+    ghost slots = { λ c. option_to_list c.first ++ option_to_list c.second };
 
     ghost names_nothing = { refl };
 
@@ -28,11 +28,6 @@ impl CellKind for Pair {
     }
 
     fn slot(&self, k: usize) -> Option<Slot> {
-        match (k, self.first) {
-            (0, None) => self.second,
-            (0, first) => first,
-            (1, Some(_)) => self.second,
-            _ => None,
-        }
+        self.first.into_iter().chain(self.second).nth(k)
     }
 }

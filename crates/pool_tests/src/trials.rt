@@ -1,13 +1,22 @@
 // A pool and an allocator through a few calls, of which every answer is looked at.
 use crate::pair::Pair;
 use allocator::{CellAllocator, CellIndex, FreeStack, NextFitBitmap};
-use pool::{CellKind, Counted, Pool, Slot};
+use pool::{CellKind, Counted, FittedPool, Pool, Slot};
 use std::process::Abort;
 
 const UNUSED: Counted<Pair> = Counted {
     count: 7,
     cell: Pair {
         number: 7,
+        first: None,
+        second: None,
+    },
+};
+
+const VACANT: Counted<Pair> = Counted {
+    count: 0,
+    cell: Pair {
+        number: 0,
         first: None,
         second: None,
     },
@@ -81,8 +90,7 @@ fn hold<A: CellAllocator>(rt: &impl Abort, allocator: &mut A) {
     assert!(rt; pool.fits(allocator));
     assert_eq!(rt; pool.live_number(), 0);
     drop(pool);
-    assert_eq!(rt; cells[0].count, 0);
-    assert_eq!(rt; cells[0].cell, Pair::blank());
+    assert_eq!(rt; cells[0], VACANT);
 }
 
 #[test]
@@ -93,9 +101,8 @@ fn a_cell_is_given_back_with_its_last_holder(rt: HostRuntime) {
 
 // Whether every cell is still as it was before a pool was opened.
 fn unused(rt: &impl Abort, cells: &[Counted<Pair>]) {
-    for counted in cells.iter() {
-        assert_eq!(rt; counted.count, UNUSED.count);
-        assert_eq!(rt; counted.cell, UNUSED.cell);
+    for counted in cells {
+        assert_eq!(rt; *counted, UNUSED);
     }
 }
 
@@ -106,8 +113,7 @@ fn the_rest_of_a_long_slice_is_untouched(rt: HostRuntime) {
     assert_eq!(rt; pool.size(), 4_096);
     assert_eq!(rt; pool.live_number(), 0);
     drop(pool);
-    assert_eq!(rt; cells[4_095].count, 0);
-    assert_eq!(rt; cells[4_095].cell, Pair::blank());
+    assert_eq!(rt; cells[4_095], VACANT);
     unused(&rt, &cells[4_096..4_099]);
 }
 
@@ -125,6 +131,39 @@ fn an_allocator_fits_where_it_has_allocated_the_live_cells(rt: HostRuntime) {
     assert_eq!(rt; pool.put(&mut fitting, numbered(1)), Some(0));
     assert!(rt; pool.fits(&ahead));
     assert!(rt; !pool.fits(&NextFitBitmap::new(2)));
+}
+
+// Pairs a pool of two cells with an allocator that does not fit and with one that does, and puts, holds and lets go.
+fn pair<A: CellAllocator + Drop>(rt: &impl Abort, other: A, fitting: A) {
+    let mut cells = [UNUSED; 2];
+    let Err((pool, other)) = FittedPool::new(Pool::open(&mut cells), other) else {
+        panic!(rt; "another allocator fits")
+    };
+    assert_eq!(rt; other.capacity(), 3);
+    let Ok(mut fitted) = FittedPool::new(pool, fitting) else {
+        panic!(rt; "a new allocator of the pool's size does not fit")
+    };
+    assert_eq!(rt; fitted.put(numbered(5)), Some(0));
+    assert!(rt; fitted.pool().is_live(0));
+    assert!(rt; fitted.pool().count(0) < 2);
+    fitted.retain(0);
+    assert_eq!(rt; fitted.put(numbered(6)), Some(1));
+    assert_eq!(rt; fitted.put(numbered(7)), None);
+    assert!(rt; fitted.pool().is_live(0));
+    assert_eq!(rt; fitted.release(0), None);
+    assert!(rt; fitted.pool().is_live(0));
+    assert_eq!(rt; fitted.release(0), Some(numbered(5)));
+    assert_eq!(rt; fitted.pool().live_number(), 1);
+    let (pool, fitting) = fitted.into_parts();
+    assert!(rt; pool.fits(&fitting));
+    assert!(rt; !fitting.is_allocated(0));
+    assert!(rt; fitting.is_allocated(1));
+}
+
+#[test]
+fn a_pool_is_paired_with_an_allocator_that_fits(rt: HostRuntime) {
+    pair(&rt, NextFitBitmap::new(3), NextFitBitmap::new(2));
+    pair(&rt, FreeStack::new(3), FreeStack::new(2));
 }
 
 #[test]

@@ -1,13 +1,26 @@
 -- The arguments of a command, told one after the other. Assumes nothing.
-use Rattle.std.proofs.Common.{◌≡◌, ℕ, ◌<◌, List, ◌∷◌, drop, None, decimal, sym, ap, ◌∙◌, arith}
+use Rattle.std.proofs.Common.{◌≡◌, ℕ, ◌<◌, List, [], ◌∷◌, ◌++◌, drop, None, decimal, sym, ap, ◌∙◌, arith}
 use Rattle.notation.specs.Numbers.{number_bound, spaced}
 use Rattle.protocol.specs.Commands.{load, splice, fork, undo, release, print, same, Small, Steps, arguments, bracketed}
-use Rattle.protocol.specs.Requests.{Asks}
+use Rattle.protocol.specs.Requests.{Asks, Written}
+use Rattle.protocol.specs.Letters.{letter_byte}
+use Rattle.protocol.specs.declared.command.Letter.{Letter}
+use Rattle.protocol.specs.declared.command.Letter.TheVariants as L
 use Rattle.protocol.proofs.Pathways.{spaced_unique, bracketed_unique}
 
 -- two handles, of which the first is there
 pub not_two : (args rest : List ℕ) (v : ℕ) → v < number_bound → args ≡ spaced v rest → ((w : ℕ) → w < number_bound → rest ≡ decimal w → ⊥) → (a b : ℕ) → a < number_bound → b < number_bound → args ≡ spaced a (decimal b) → ⊥
 not_two args rest v small e none a b sa sb h = none b sb (spaced_unique v a rest (decimal b) small sa (sym e ∙ h)).1
+
+-- a line of another form than a letter with its arguments is no command
+pub no_letter : (line : List ℕ) → ((l : Letter) (args : List ℕ) → line ≡ 40 ∷ letter_byte l ∷ 32 ∷ (args ++ (41 ∷ [])) → ⊥) → Written line None
+no_letter line none (load h t) s e = none L.Load (arguments (load h t)) (sym e)
+no_letter line none (splice h p k n t) s e = none L.Splice (arguments (splice h p k n t)) (sym e)
+no_letter line none (fork a b) s e = none L.Fork (arguments (fork a b)) (sym e)
+no_letter line none (undo h) s e = none L.Undo (arguments (undo h)) (sym e)
+no_letter line none (release h) s e = none L.Release (arguments (release h)) (sym e)
+no_letter line none (print h) s e = none L.Print (arguments (print h)) (sym e)
+no_letter line none (same a b) s e = none L.Same (arguments (same a b)) (sym e)
 
 -- only a splice has the letter S
 only_splice : (args : List ℕ) → ((h : ℕ) (p : List ℕ) (k n : ℕ) (t : List ℕ) → Small (splice h p k n t) → args ≡ arguments (splice h p k n t) → ⊥) → Asks 83 args None

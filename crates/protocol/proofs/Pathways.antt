@@ -4,7 +4,7 @@ use Rattle.std.specs.List.{AllByRecursion}
 use Rattle.std.proofs.lemmas.List.{append_assoc, length-append}
 use Rattle.notation.specs.Numbers.{number_bound, Stops, Front, spaced}
 use Rattle.protocol.specs.Commands.{Steps, behind, bracketed}
-use Rattle.notation.proofs.Digits.{front_some, front_unique}
+use Rattle.notation.proofs.Digits.{some_digit, front_unique}
 
 all_mid : (P : ℕ → Type 0) (xs ys : List ℕ) (y : ℕ) → AllByRecursion P (xs ++ (y ∷ ys)) → P y
 all_mid P [] ys y h = h.0
@@ -36,12 +36,6 @@ module _ (inside done left : List ℕ) (r : Reading inside done left) where
 
   pub no_number : ((v : ℕ) (rest : List ℕ) → Front left v rest → ⊥) → (v : ℕ) (vs rest : List ℕ) → Steps (v ∷ vs) → 40 ∷ inside ≡ bracketed (v ∷ vs) rest → ⊥
   no_number none v vs rest small e = let next = next_step v vs rest small e in none next.0 (behind next.1 rest) next.3
-
-  pub too_many : 16 ≤ length done → (v : ℕ) (vs rest : List ℕ) → Steps (v ∷ vs) → 40 ∷ inside ≡ bracketed (v ∷ vs) rest → ⊥
-  too_many all v vs rest small e =
-      let next = next_step v vs rest small e in
-      let count : length (v ∷ vs) ≡ length done + length (next.0 ∷ next.1) = ap length next.2 ∙ length-append done (next.0 ∷ next.1) in
-      omega (arith, count, small.0, all)
 
   module _ (v : ℕ) (after : List ℕ) (front : Front left v after) where
     pub ends_badly : ((rest : List ℕ) → after ≡ 41 ∷ rest → ⊥) → ((rest : List ℕ) → after ≡ 32 ∷ rest → ⊥) → (u : ℕ) (us rest : List ℕ) → Steps (u ∷ us) → 40 ∷ inside ≡ bracketed (u ∷ us) rest → ⊥
@@ -84,8 +78,8 @@ behind_unique (v ∷ vs) (w ∷ ws) x y h k e =
 
 pub bracketed_unique : (p q x y : List ℕ) → Steps p → Steps q → bracketed p x ≡ bracketed q y → (p ≡ q) × (x ≡ y)
 bracketed_unique [] [] x y h k e = (refl, ap (drop 2) e)
-bracketed_unique [] (w ∷ ws) x y h k e = absurd (let z = front_some (41 ∷ x) w (behind ws y) (k.1.0, ap (drop 1) e, behind_stops ws y) in omega (arith, z))
-bracketed_unique (v ∷ vs) [] x y h k e = absurd (let z = front_some (41 ∷ y) v (behind vs x) (h.1.0, ap (drop 1) (sym e), behind_stops vs x) in omega (arith, z))
+bracketed_unique [] (w ∷ ws) x y h k e = absurd (some_digit (41 ∷ x) w (behind ws y) (k.1.0, ap (drop 1) e, behind_stops ws y) refl)
+bracketed_unique (v ∷ vs) [] x y h k e = absurd (some_digit (41 ∷ y) v (behind vs x) (h.1.0, ap (drop 1) (sym e), behind_stops vs x) refl)
 bracketed_unique (v ∷ vs) (w ∷ ws) x y h k e =
     let one = front_unique (decimal v ++ behind vs x) v w (behind vs x) (behind ws y) (h.1.0, refl, behind_stops vs x) (k.1.0, ap (drop 1) e, behind_stops ws y) in
     let others = behind_unique vs ws x y h.1.1 k.1.1 one.1 in

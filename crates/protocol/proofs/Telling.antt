@@ -15,11 +15,9 @@ two_numbers a b c d sa sb sc sd e = let one = spaced_unique a c (decimal b) (dec
 load_told : (h g : ℕ) (t u : List ℕ) → h < number_bound → g < number_bound → spaced h t ≡ spaced g u → load h t ≡ load g u
 load_told h g t u sh sg e = let one = spaced_unique h g t u sh sg e in (λ i. load (one.0 i) (one.1 i))
 
-fork_told : (a b c d : ℕ) → a < number_bound → b < number_bound → c < number_bound → d < number_bound → spaced a (decimal b) ≡ spaced c (decimal d) → fork a b ≡ fork c d
-fork_told a b c d sa sb sc sd e = let both = two_numbers a b c d sa sb sc sd e in (λ i. fork (both.0 i) (both.1 i))
-
-same_told : (a b c d : ℕ) → a < number_bound → b < number_bound → c < number_bound → d < number_bound → spaced a (decimal b) ≡ spaced c (decimal d) → same a b ≡ same c d
-same_told a b c d sa sb sc sd e = let both = two_numbers a b c d sa sb sc sd e in (λ i. same (both.0 i) (both.1 i))
+-- a fork, or whether two handles are the same
+pair_told : (make : ℕ → ℕ → Request) (a b c d : ℕ) → a < number_bound → b < number_bound → c < number_bound → d < number_bound → spaced a (decimal b) ≡ spaced c (decimal d) → make a b ≡ make c d
+pair_told make a b c d sa sb sc sd e = let both = two_numbers a b c d sa sb sc sd e in (λ i. make (both.0 i) (both.1 i))
 
 splice_told : (h : ℕ) (p : List ℕ) (k n : ℕ) (t : List ℕ) (g : ℕ) (q : List ℕ) (j m : ℕ) (u : List ℕ) → Small (splice h p k n t) → Small (splice g q j m u) → arguments (splice h p k n t) ≡ arguments (splice g q j m u) → splice h p k n t ≡ splice g q j m u
 splice_told h p k n t g q j m u sr ss e =
@@ -32,11 +30,11 @@ splice_told h p k n t g q j m u sr ss e =
 told : (r s : Request) → Small r → Small s → letter r ≡ letter s → arguments r ≡ arguments s → r ≡ s
 told (load h t) s sr ss l e = search (rules, load_told)
 told (splice h p k n t) s sr ss l e = search (rules, splice_told)
-told (fork a b) s sr ss l e = search (rules, fork_told)
+told (fork a b) s sr ss l e = search (rules, pair_told fork)
 told (undo h) s sr ss l e = search (rules, one_number)
 told (release h) s sr ss l e = search (rules, one_number)
 told (print h) s sr ss l e = search (rules, one_number)
-told (same a b) s sr ss l e = search (rules, same_told)
+told (same a b) s sr ss l e = search (rules, pair_told same)
 
 pub one_request : (r s : Request) → Small r → Small s → written r ≡ written s → r ≡ s
 one_request r s sr ss e = told r s sr ss (ap (λ bs. get_or bs 1 0) e) (append_cancel_right (arguments r) (arguments s) (41 ∷ []) (ap (drop 3) e))

@@ -4,7 +4,7 @@ use crate::refusal::Refusal;
 use crate::report::Report;
 
 /// The answer to a command.
-#[derive(Clone, Copy)]
+#[derive(Clone, Copy, PartialEq, Eq, Debug)]
 pub enum Answer {
     Loaded(Report),
     Spliced(Report),

@@ -1,7 +1,7 @@
 // What a script may ask of the store.
 ghost use Rattle.std.specs.Prelude.{◌≡◌};
 ghost use Rattle.protocol.specs.Commands.{letter};
-ghost use Rattle.protocol.specs.Letters.{letter_byte};
+ghost use Rattle.protocol.specs.Letters.{letter_byte, NamesLetter};
 ghost use Rattle.protocol.specs.Requests.{request_of};
 
 use crate::path::Path;
@@ -13,7 +13,7 @@ pub type Handle = u16;
 pub type ItemNumber = u16;
 
 /// One command of a script. Texts are borrowed from its line.
-#[derive(Clone, Copy)]
+#[derive(Clone, Copy, PartialEq, Eq, Debug)]
 pub enum Command<'a> {
     /// `L`: fill a free handle with a text.
     Load {
@@ -53,15 +53,15 @@ pub enum Command<'a> {
 }
 
 /// The letter of a command.
-#[derive(Clone, Copy)]
+#[derive(Clone, Copy, PartialEq, Eq, Debug)]
 pub enum Letter {
-    Load,
-    Splice,
-    Fork,
-    Undo,
-    Release,
-    Print,
-    Same,
+    Load = b'L' as isize,
+    Splice = b'S' as isize,
+    Fork = b'F' as isize,
+    Undo = b'U' as isize,
+    Release = b'R' as isize,
+    Print = b'P' as isize,
+    Same = b'E' as isize,
 }
 
 impl Letter {
@@ -69,14 +69,29 @@ impl Letter {
     pub fn byte(self) -> u8
         ensures { result ≡ letter_byte self }
     {
-        match self {
-            Letter::Load => b'L',
-            Letter::Splice => b'S',
-            Letter::Fork => b'F',
-            Letter::Undo => b'U',
-            Letter::Release => b'R',
-            Letter::Print => b'P',
-            Letter::Same => b'E',
+        self as u8
+    }
+}
+
+/// A byte that is the letter of no command.
+#[derive(Clone, Copy, PartialEq, Eq, Debug)]
+pub struct UnknownLetter(pub u8);
+
+impl TryFrom<u8> for Letter {
+    type Error = UnknownLetter;
+
+    ghost try_from_gives = { NamesLetter };
+
+    fn try_from(byte: u8) -> Result<Letter, UnknownLetter> {
+        match char::from(byte) {
+            'L' => Ok(Letter::Load),
+            'S' => Ok(Letter::Splice),
+            'F' => Ok(Letter::Fork),
+            'U' => Ok(Letter::Undo),
+            'R' => Ok(Letter::Release),
+            'P' => Ok(Letter::Print),
+            'E' => Ok(Letter::Same),
+            _ => Err(UnknownLetter(byte)),
         }
     }
 }

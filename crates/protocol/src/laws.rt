@@ -1,14 +1,10 @@
 // Laws of the script language. Each function stands for the theorem in its contract, and does nothing.
 ghost use Rattle.protocol.specs.Laws.{ALineHasAtMostOneCommand, TheExampleIsWrittenSo};
 
-pub fn a_line_has_at_most_one_command() -> u8
+pub fn a_line_has_at_most_one_command()
     ensures { ALineHasAtMostOneCommand }
-{
-    0
-}
+{}
 
-pub fn the_example_is_written_so() -> u8
+pub fn the_example_is_written_so()
     ensures { TheExampleIsWrittenSo }
-{
-    0
-}
+{}

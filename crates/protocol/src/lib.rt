@@ -12,9 +12,9 @@ pub mod report;
 mod writer;
 
 pub use answer::Answer;
-pub use command::{Command, Handle, ItemNumber, Letter};
+pub use command::{Command, Handle, ItemNumber, Letter, UnknownLetter};
 pub use parser::{LINE_LIMIT, parse};
-pub use path::{PATH_LIMIT, Path, Step};
+pub use path::{PATH_LIMIT, Path, PathFull, Step};
 pub use refusal::{PoolName, Refusal};
 pub use report::{CellCounts, Report};
 pub use writer::write_answer;

@@ -1,10 +1,12 @@
 // From a line of a script to its command.
 ghost use Rattle.std.specs.Prelude.{◌≡◌, ℕ, ◌<◌, List, [], ◌∷◌, ◌++◌, decimal, MatchOption, ◌≢◌};
 ghost use Rattle.notation.specs.Numbers.{spaced, number_bound};
+ghost use Rattle.protocol.specs.declared.command.Letter.{Letter};
+ghost use Rattle.protocol.specs.Letters.{letter_byte};
 ghost use Rattle.protocol.specs.Requests.{Asks, Written};
 ghost use Rattle.protocol.specs.Parsing.{Parses};
 
-use crate::command::{Command, Handle};
+use crate::command::{Command, Handle, Letter};
 use crate::path_reader::read_path;
 use crate::refusal::Refusal;
 use notation::{after, spaced_number, whole_number};
@@ -13,17 +15,14 @@ use notation::{after, spaced_number, whole_number};
 pub const LINE_LIMIT: usize = 256;
 
 // The letter of a line and its arguments, where it has the form of a command.
-fn take_apart(line: &[u8]) -> Option<(u8, &[u8])>
-    ensures { MatchOption result ((l : ℕ) (args : List ℕ) → line.now ≢ 40 ∷ l ∷ 32 ∷ (args ++ (41 ∷ []))) (λ p. line.now ≡ 40 ∷ p.0 ∷ 32 ∷ (p.1.now ++ (41 ∷ []))) }
+fn take_apart(line: &[u8]) -> Option<(Letter, &[u8])>
+    ensures { MatchOption result ((l : Letter) (args : List ℕ) → line.now ≢ 40 ∷ letter_byte l ∷ 32 ∷ (args ++ (41 ∷ []))) (λ p. line.now ≡ 40 ∷ letter_byte p.0 ∷ 32 ∷ (p.1.now ++ (41 ∷ []))) }
 {
-    let [b'(', letter, b' ', rest @ ..] = line else {
+    let [b'(', letter, b' ', arguments @ .., b')'] = line else {
         return None;
     };
-    let (last, arguments) = rest.split_last()?;
-    if *last != b')' {
-        return None;
-    }
-    Some((*letter, arguments))
+    let letter = Letter::try_from(*letter).ok()?;
+    Some((letter, arguments))
 }
 
 /// The command that a line is, if it is one.
@@ -31,15 +30,21 @@ pub fn command(line: &[u8]) -> Option<Command<'_>>
     ensures { Written line.now result }
 {
     let (letter, arguments) = take_apart(line)?;
-    match letter as char {
-        'L' => load(arguments),
-        'S' => splice(arguments),
-        'F' => fork(arguments),
-        'U' => undo(arguments),
-        'R' => release(arguments),
-        'P' => print(arguments),
-        'E' => same(arguments),
-        _ => None,
+    command_of(letter, arguments)
+}
+
+// The command of a letter with these arguments, if it has them.
+fn command_of(letter: Letter, arguments: &[u8]) -> Option<Command<'_>>
+    ensures { Asks (letter_byte letter) arguments.now result }
+{
+    match letter {
+        Letter::Load => load(arguments),
+        Letter::Splice => splice(arguments),
+        Letter::Fork => two_handles(arguments).map(|(held, free)| Command::Fork { held, free }),
+        Letter::Undo => whole_number(arguments).map(|handle| Command::Undo { handle }),
+        Letter::Release => whole_number(arguments).map(|handle| Command::Release { handle }),
+        Letter::Print => whole_number(arguments).map(|handle| Command::Print { handle }),
+        Letter::Same => two_handles(arguments).map(|(left, right)| Command::Same { left, right }),
     }
 }
 
@@ -76,41 +81,6 @@ fn two_handles(arguments: &[u8]) -> Option<(Handle, Handle)>
     Some((one, other))
 }
 
-fn fork(arguments: &[u8]) -> Option<Command<'_>>
-    ensures { Asks 70 arguments.now result }
-{
-    let (held, free) = two_handles(arguments)?;
-    Some(Command::Fork { held, free })
-}
-
-fn same(arguments: &[u8]) -> Option<Command<'_>>
-    ensures { Asks 69 arguments.now result }
-{
-    let (left, right) = two_handles(arguments)?;
-    Some(Command::Same { left, right })
-}
-
-fn undo(arguments: &[u8]) -> Option<Command<'_>>
-    ensures { Asks 85 arguments.now result }
-{
-    let handle = whole_number(arguments)?;
-    Some(Command::Undo { handle })
-}
-
-fn release(arguments: &[u8]) -> Option<Command<'_>>
-    ensures { Asks 82 arguments.now result }
-{
-    let handle = whole_number(arguments)?;
-    Some(Command::Release { handle })
-}
-
-fn print(arguments: &[u8]) -> Option<Command<'_>>
-    ensures { Asks 80 arguments.now result }
-{
-    let handle = whole_number(arguments)?;
-    Some(Command::Print { handle })
-}
-
 /// The command of a line, which comes without its line end.
 pub fn parse(line: &[u8]) -> Result<Command<'_>, Refusal>
     ensures { Parses line.now result }
@@ -118,8 +88,5 @@ pub fn parse(line: &[u8]) -> Result<Command<'_>, Refusal>
     if line.len() > LINE_LIMIT {
         return Err(Refusal::LineTooLong);
     }
-    match command(line) {
-        Some(command) => Ok(command),
-        None => Err(Refusal::NoCommand),
-    }
+    command(line).ok_or(Refusal::NoCommand)
 }

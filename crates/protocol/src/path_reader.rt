@@ -3,7 +3,7 @@ ghost use Rattle.std.specs.Prelude.{◌≡◌, ℕ, ◌≤◌, List, ◌∷◌, 
 ghost use Rattle.protocol.specs.Commands.{Steps, bracketed, path_limit};
 ghost use Rattle.protocol.specs.Paths.{steps_of};
 
-use crate::path::{PATH_LIMIT, Path};
+use crate::path::Path;
 use notation::{after, number};
 
 /// The path in brackets at the front of some bytes, and the bytes behind it.
@@ -12,8 +12,7 @@ pub fn read_path(bytes: &[u8]) -> Option<(Path, &[u8])>
 {
     let inside = after(b'(', bytes)?;
     if let Some(rest) = after(b')', inside) {
-        let steps = [0; PATH_LIMIT];
-        return Some((Path { steps, length: 0 }, rest));
+        return Some((Path::new(), rest));
     }
     read_steps(inside)
 }
@@ -22,16 +21,16 @@ pub fn read_path(bytes: &[u8]) -> Option<(Path, &[u8])>
 fn read_steps(inside: &[u8]) -> Option<(Path, &[u8])>
     ensures { MatchOption result ((v : ℕ) (vs rest : List ℕ) → Steps (v ∷ vs) → 40 ∷ inside.now ≢ bracketed (v ∷ vs) rest) (λ q. (q.0.length ≤ path_limit) × Steps (steps_of q.0) × (40 ∷ inside.now ≡ bracketed (steps_of q.0) q.1.now)) }
 {
-    let mut steps = [0; PATH_LIMIT];
+    let mut path = Path::new();
     let mut left = inside;
-    for n in 0..PATH_LIMIT {
+    loop {
         let (step, behind) = number(left)?;
-        steps[n] = step;
+        let Ok(()) = path.push(step) else {
+            return None;
+        };
         if let Some(rest) = after(b')', behind) {
-            let length = n + 1;
-            return Some((Path { steps, length }, rest));
+            return Some((path, rest));
         }
         left = after(b' ', behind)?;
     }
-    None
 }

@@ -7,11 +7,11 @@ use crate::command::Handle;
 use syntax::ReadFault;
 
 /// A pool of the store.
-#[derive(Clone, Copy)]
+#[derive(Clone, Copy, PartialEq, Eq, Debug)]
 pub enum PoolName {
-    Tokens,
-    Links,
-    Versions,
+    Tokens = 1,
+    Links = 2,
+    Versions = 3,
 }
 
 impl PoolName {
@@ -19,16 +19,12 @@ impl PoolName {
     pub fn number(self) -> u8
         ensures { result ≡ pool_number self }
     {
-        match self {
-            PoolName::Tokens => 1,
-            PoolName::Links => 2,
-            PoolName::Versions => 3,
-        }
+        self as u8
     }
 }
 
 /// Why a call is refused, in the order in which it is checked. A refusal changes nothing.
-#[derive(Clone, Copy)]
+#[derive(Clone, Copy, PartialEq, Eq, Debug)]
 pub enum Refusal {
     /// An allocator's capacity is not its pool's size, or it has not allocated exactly the live cells.
     Misfit {
@@ -94,6 +90,7 @@ impl From<ReadFault> for Refusal {
 
 impl Refusal {
     /// The number of the refusal.
+    // Cases that carry a value have no discriminant to cast.
     pub fn number(self) -> u8
         ensures { result ≡ refusal_number self }
     {

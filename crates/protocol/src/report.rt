@@ -1,7 +1,7 @@
 // How many cells a call took and gave back.
 
 /// So many cells of each pool.
-#[derive(Clone, Copy)]
+#[derive(Clone, Copy, PartialEq, Eq, Debug)]
 pub struct CellCounts {
     pub tokens: u16,
     pub links: u16,
@@ -9,7 +9,7 @@ pub struct CellCounts {
 }
 
 /// What a call took from the allocators, and what it gave back.
-#[derive(Clone, Copy)]
+#[derive(Clone, Copy, PartialEq, Eq, Debug)]
 pub struct Report {
     pub taken: CellCounts,
     pub freed: CellCounts,

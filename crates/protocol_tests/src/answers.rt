@@ -1,23 +1,13 @@
 // Answers to the byte.
 use protocol::{Answer, CellCounts, Letter, PoolName, Refusal, Report, write_answer};
-use std::test::Fail;
-use syntax::{ReadFault, take_census};
+use syntax::{BracketFault, BracketFaultKind, ReadFault, take_census};
 
 // Whether an answer is these bytes, and the rest of the buffer stays as it was.
 fn answers(answer: Answer, text: &[u8], bytes: &[u8]) -> bool {
     let mut buffer = [b'.'; 80];
-    let Ok(size) = write_answer(&mut buffer, answer, text) else {
-        return false;
-    };
-    if size != bytes.len() {
-        return false;
-    }
-    for (n, byte) in buffer.iter().enumerate() {
-        if *byte != if n < size { bytes[n] } else { b'.' } {
-            return false;
-        }
-    }
-    true
+    let size = write_answer(&mut buffer, answer, text);
+    let (front, rest) = buffer.split_at(bytes.len().min(80));
+    size == Ok(bytes.len()) && front == bytes && rest.iter().all(|byte| *byte == b'.')
 }
 
 fn report(taken: (u16, u16, u16), freed: (u16, u16, u16)) -> Report {
@@ -140,40 +130,26 @@ fn load(text: &[u8]) -> Result<usize, Refusal> {
 }
 
 #[test]
-fn a_fault_is_told_by_kind_and_place(rt: HostRuntime) -> Result<(), Fail> {
-    let Err(refusal) = load(b"a)") else {
-        assert!(rt; false);
-        return Ok(());
-    };
+fn a_fault_is_told_by_kind_and_place(rt: HostRuntime) {
+    let refusal = Refusal::Fault(ReadFault::Bracket(BracketFault {
+        kind: BracketFaultKind::UnmatchedClose,
+        place: 1,
+    }));
+    assert_eq!(rt; load(b"a)"), Err(refusal));
     assert_eq!(rt; refusal.number(), 5);
     assert!(rt; refuses(Letter::Load, refusal, b"(no L 5 4 1)\n"));
-    let Refusal::Fault(ReadFault::Bracket(fault)) = refusal else {
-        assert!(rt; false);
-        return Ok(());
-    };
-    assert_eq!(rt; fault.place, 1);
-    Ok(())
 }
 
 #[test]
-fn a_short_buffer_is_untouched(rt: HostRuntime) -> Result<(), Fail> {
+fn a_short_buffer_is_untouched(rt: HostRuntime) {
     let mut buffer = [b'.'; 15];
-    let Err(Refusal::BufferTooShort { needed }) = write_answer(
-        &mut buffer,
-        Answer::Printed,
-        b"(a cd)",
-    ) else {
-        assert!(rt; false);
-        return Ok(());
-    };
-    assert_eq!(rt; needed, 16);
-    for byte in buffer {
-        assert_eq!(rt; byte, b'.');
-    }
-    let Ok(size) = write_answer(&mut buffer, Answer::Printed, b"(a c)") else {
-        assert!(rt; false);
-        return Ok(());
-    };
-    assert_eq!(rt; size, 15);
-    Ok(())
+    assert_eq!(rt;
+        write_answer(&mut buffer, Answer::Printed, b"(a cd)"),
+        Err(Refusal::BufferTooShort { needed: 16 })
+    );
+    assert_eq!(rt; buffer, [b'.'; 15]);
+    assert_eq!(rt;
+        write_answer(&mut buffer, Answer::Printed, b"(a c)"),
+        Ok(15)
+    );
 }

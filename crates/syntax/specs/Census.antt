@@ -13,6 +13,7 @@
 -- counted c k d     the census c and one lexeme more, of kind k, which is met while d forms are open
 -- Room c            each number of c has room for one more
 use Rattle.std.specs.Prelude.{ℕ, ◌+◌, ◌-◌, ◌^◌, ◌<◌, max, Bool, true, false, cond, List, [], ◌∷◌, ◌++◌, length, Some, None, Ok, count_by, Option, Result, ◌==◌}
+use Rattle.std.specs.Option.{option_or}
 use Rattle.syntax.specs.Reading.{Piece, then, reading}
 use Rattle.syntax.specs.Tokens.{number_of}
 use Rattle.syntax.specs.declared.census.Census.{Census}
@@ -74,18 +75,13 @@ abbrev pub top_kinds : ℕ → List Piece → List ItemKind
 top_kinds d [] = []
 top_kinds d (p ∷ ps) = at_top d p.kind ++ top_kinds (depth_after d p.kind) ps
 
--- the first of two that is there
-abbrev pub or_else : Option ItemKind → Option ItemKind → Option ItemKind
-or_else None k = k
-or_else (Some j) k = Some j
-
 abbrev pub first_of : List ItemKind → Option ItemKind
 first_of [] = None
 first_of (k ∷ ks) = Some k
 
 abbrev pub last_of : List ItemKind → Option ItemKind
 last_of [] = None
-last_of (k ∷ ks) = or_else (last_of ks) (Some k)
+last_of (k ∷ ks) = option_or (last_of ks) (Some k)
 
 abbrev pub deepest : ℕ → List Piece → ℕ
 deepest d [] = d
@@ -129,8 +125,8 @@ counted c k d =
       forms = c.forms + one (is_open k);
       items = c.items + one (begins_item k);
       top_items = c.top_items + length (at_top d k);
-      first = or_else c.first (first_of (at_top d k));
-      last = or_else (last_of (at_top d k)) c.last;
+      first = option_or c.first (first_of (at_top d k));
+      last = option_or (last_of (at_top d k)) c.last;
       nesting = cond (is_open k) (max c.nesting (d + 1)) c.nesting;
     }
 

@@ -19,7 +19,7 @@ use Rattle.syntax.specs.Limits.{token_limit}
 use Rattle.syntax.specs.Tokens.{is, continues, closes_class, Obeys}
 use Rattle.syntax.specs.declared.class.Class.{Class}
 use Rattle.syntax.specs.declared.class.Class.TheVariants as C
-use Rattle.syntax.specs.declared.fault.TokenFault.{TokenFault}
+use Rattle.syntax.specs.Layers.{TokenFault}
 use Rattle.syntax.specs.declared.fault.TokenFaultKind.TheVariants.{ForeignByte, Unfinished, TooLong}
 use Rattle.syntax.specs.declared.kind.Kind.{Kind}
 use Rattle.syntax.specs.declared.kind.Kind.TheVariants as K

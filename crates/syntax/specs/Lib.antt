@@ -2,6 +2,7 @@ pub mod Census
 pub mod Classes
 pub mod Faults
 pub mod Lexemes
+pub mod Layers
 pub mod Limits
 pub mod Messages
 pub mod OpenForms

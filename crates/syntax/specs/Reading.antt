@@ -11,7 +11,7 @@
 use Rattle.std.specs.Prelude.{ℕ, zero, suc, ◌+◌, ◌-◌, cond, List, [], ◌∷◌, length, take, Ok, Err, Result, nat_lt}
 use Rattle.syntax.specs.Lexemes.{lexeme}
 use Rattle.syntax.specs.Limits.{nesting_limit}
-use Rattle.syntax.specs.declared.fault.BracketFault.{BracketFault}
+use Rattle.syntax.specs.Layers.{BracketFault}
 use Rattle.syntax.specs.declared.fault.BracketFaultKind.TheVariants.{UnmatchedClose, UnclosedForm, TooDeep}
 use Rattle.syntax.specs.declared.fault.ReadFault.{ReadFault}
 use Rattle.syntax.specs.declared.fault.ReadFault.TheVariants as R

@@ -1,7 +1,7 @@
 // How much a text holds: its tokens, forms and items, counted in one pass.
 ghost use Rattle.std.specs.Prelude.{◌≡◌, ◌+◌, ◌^◌, ◌<◌, ◌≤◌, length, IfErr};
 ghost use Rattle.syntax.specs.Faults.{place_of};
-ghost use Rattle.syntax.specs.Census.{nothing, counted, Room, census};
+ghost use Rattle.syntax.specs.Census.{counted, Room, census};
 
 use crate::fault::ReadFault;
 use crate::kind::{ItemKind, Kind};
@@ -9,7 +9,7 @@ use crate::lexeme::LexemeKind;
 use crate::reader::Reader;
 
 /// How much a text holds.
-#[derive(Clone, Copy, PartialEq, Eq, Debug)]
+#[derive(Clone, Copy, Default, PartialEq, Eq, Debug)]
 pub struct Census {
     /// Tokens of each kind.
     pub line_ends: usize,
@@ -32,26 +32,6 @@ pub struct Census {
 }
 
 impl Census {
-    // Of a text of which nothing is read.
-    fn new() -> Census
-        ensures { result ≡ nothing }
-    {
-        Census {
-            line_ends: 0,
-            blanks: 0,
-            words: 0,
-            quoted: 0,
-            comments: 0,
-            tokens: 0,
-            forms: 0,
-            items: 0,
-            top_items: 0,
-            first: None,
-            last: None,
-            nesting: 0,
-        }
-    }
-
     // Takes in one more lexeme, which is met while `depth` forms are open.
     fn count(&mut self, kind: LexemeKind, depth: usize)
         requires room { Room self.old }
@@ -92,12 +72,11 @@ pub fn take_census(text: &[u8]) -> Result<Census, ReadFault>
     ensures within { IfErr result (λ f. place_of f ≤ length text.now) }
 {
     let mut reader = Reader::new(text);
-    let mut census = Census::new();
-    loop {
-        let depth = reader.depth();
-        let Some(lexeme) = reader.next()? else {
-            return Ok(census);
-        };
+    let mut census = Census::default();
+    let mut depth = 0;
+    while let Some(lexeme) = reader.next()? {
         census.count(lexeme.kind, depth);
+        depth = reader.depth();
     }
+    Ok(census)
 }

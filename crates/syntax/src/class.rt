@@ -279,5 +279,6 @@ const CLASSES: &[Class; 256] = &[
 pub fn class_of(byte: u8) -> Class
     ensures { result ≡ class byte }
 {
+    // Behind `usize::from`, what is computed of the table does not close.
     CLASSES[byte as usize]
 }

@@ -16,12 +16,15 @@ pub enum TokenFaultKind {
     TooLong(Kind),
 }
 
-/// A fault of the token layer; the place is the number of bytes before it.
+/// A fault of one layer; the place is the number of bytes before it.
 #[derive(Clone, Copy, PartialEq, Eq, Debug)]
-pub struct TokenFault {
-    pub kind: TokenFaultKind,
+pub struct Fault<K> {
+    pub kind: K,
     pub place: usize,
 }
+
+/// A fault of the token layer.
+pub type TokenFault = Fault<TokenFaultKind>;
 
 /// What is wrong with the brackets.
 #[derive(Clone, Copy, PartialEq, Eq, Debug)]
@@ -34,12 +37,8 @@ pub enum BracketFaultKind {
     TooDeep,
 }
 
-/// A fault of the bracket layer; the place is the number of bytes before it.
-#[derive(Clone, Copy, PartialEq, Eq, Debug)]
-pub struct BracketFault {
-    pub kind: BracketFaultKind,
-    pub place: usize,
-}
+/// A fault of the bracket layer.
+pub type BracketFault = Fault<BracketFaultKind>;
 
 /// The layer that found a fault.
 #[derive(Clone, Copy, PartialEq, Eq, Debug)]
@@ -73,6 +72,7 @@ impl From<BracketFault> for ReadFault {
 
 impl TokenFaultKind {
     /// The number by which formats name the fault.
+    // Cases that carry a value have no discriminant to cast.
     pub fn number(self) -> u8
         ensures { result ≡ token_number self }
     {
@@ -86,6 +86,7 @@ impl TokenFaultKind {
 
 impl BracketFaultKind {
     /// The number by which formats name the fault.
+    // Two cases share a number, which discriminants cannot.
     pub fn number(self) -> u8
         ensures { result ≡ bracket_number self }
     {
@@ -107,6 +108,7 @@ impl ReadFault {
     }
 
     /// The number by which formats name the fault: 1 to 3 are faults of a token, 4 and 5 of a bracket.
+    // Cases that carry a value have no discriminant to cast.
     pub fn number(self) -> u8
         ensures { result ≡ number_of self }
     {

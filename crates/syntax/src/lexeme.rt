@@ -22,15 +22,17 @@ pub struct Lexeme {
     pub len: usize,
 }
 
+// A text and a place in it go along as they are: the pair that they make is a reader, which stands above.
+
 /// The lexeme that begins at a place, or `None` where the text ends there. Takes time in proportion to the lexeme.
 pub fn lexeme_at(text: &[u8], at: usize) -> Result<Option<Lexeme>, TokenFault>
     ensures value { result ≡ lexeme_at at (drop at text.now) }
     ensures longest { Found at result (drop at text.now) }
 {
-    if at >= text.len() {
+    let Some(first) = text.get(at) else {
         return Ok(None);
-    }
-    let lexeme = lexeme_by(class_of(text[at]), text, at)?;
+    };
+    let lexeme = lexeme_by(class_of(*first), text, at)?;
     Ok(Some(lexeme))
 }
 
@@ -52,8 +54,8 @@ fn lexeme_by(class: Class, text: &[u8], at: usize) -> Result<Lexeme, TokenFault>
             kind: LexemeKind::Token(Kind::LineEnd),
             len: 1,
         }),
-        Class::Blank => finish(Kind::Blank, at, run_len(text, at, Kind::Blank)),
-        Class::Word => finish(Kind::Word, at, run_len(text, at, Kind::Word)),
+        Class::Blank => finish(Kind::Blank, at, run_len(&text[at..], Kind::Blank)),
+        Class::Word => finish(Kind::Word, at, run_len(&text[at..], Kind::Word)),
         Class::Quote => finish_delimited(text, at, Kind::Quoted),
         Class::Comment => finish_delimited(text, at, Kind::Comment),
         Class::Foreign => Err(TokenFault {
@@ -63,17 +65,15 @@ fn lexeme_by(class: Class, text: &[u8], at: usize) -> Result<Lexeme, TokenFault>
     }
 }
 
-// How many bytes from a place on go on with a token of this kind: the longest run.
-fn run_len(text: &[u8], from: usize, kind: Kind) -> usize
-    requires { from ≤ length text.now }
-    ensures value { result ≡ run kind (drop from text.now) }
-    ensures within { from + result ≤ length text.now }
+// How many bytes at the front go on with a token of this kind: the longest run.
+fn run_len(bytes: &[u8], kind: Kind) -> usize
+    ensures value { result ≡ run kind bytes.now }
+    ensures within { result ≤ length bytes.now }
 {
-    let mut end = from;
-    while end < text.len() && kind.continues(class_of(text[end])) {
-        end += 1;
-    }
-    end - from
+    bytes
+        .iter()
+        .take_while(|byte| kind.continues(class_of(**byte)))
+        .count()
 }
 
 // A token of a given length, if it keeps the limit.
@@ -97,14 +97,14 @@ fn finish_delimited(text: &[u8], at: usize, kind: Kind) -> Result<Lexeme, TokenF
     requires { at < length text.now }
     ensures { result ≡ delimited kind at (drop at text.now) }
 {
-    let len = 1 + run_len(text, at + 1, kind);
-    if at + len >= text.len() {
+    let len = 1 + run_len(&text[at + 1..], kind);
+    let Some(stop) = text.get(at + len) else {
         return Err(TokenFault {
             kind: TokenFaultKind::Unfinished(kind),
             place: at,
         });
-    }
-    close(class_of(text[at + len]), kind, at, len)
+    };
+    close(class_of(*stop), kind, at, len)
 }
 
 // An opened token of `len` bytes so far, by the class of the byte that stops it.

@@ -16,7 +16,9 @@ pub mod theorems;
 
 pub use census::{Census, take_census};
 pub use class::{Class, class_of};
-pub use fault::{BracketFault, BracketFaultKind, Layer, ReadFault, TokenFault, TokenFaultKind};
+pub use fault::{
+    BracketFault, BracketFaultKind, Fault, Layer, ReadFault, TokenFault, TokenFaultKind,
+};
 pub use kind::{ItemKind, Kind};
 pub use lexeme::{Lexeme, LexemeKind, lexeme_at};
 pub use limits::{NESTING_LIMIT, TEXT_LIMIT, TOKEN_LIMIT};

@@ -1,5 +1,5 @@
 // Where a place is in a text, as editors count: lines and columns, both from 1.
-ghost use Rattle.std.specs.Prelude.{◌≡◌, ◌+◌, ◌≤◌, length};
+ghost use Rattle.std.specs.Prelude.{◌≡◌, ◌≤◌, length};
 ghost use Rattle.syntax.specs.Positions.{ends_line, line_ends, unfinished, position, lines};
 
 use crate::class::{Class, class_of};
@@ -20,10 +20,10 @@ pub fn locate(text: &[u8], place: usize) -> Option<Position>
     if place > text.len() || text.len() > TEXT_LIMIT {
         return None;
     }
-    let passed = pass_lines(&text[0..place]);
+    let before = &text[..place];
     Some(Position {
-        line: 1 + passed.line_ends,
-        column: 1 + passed.unfinished,
+        line: 1 + line_ends(before),
+        column: 1 + unfinished(before),
     })
 }
 
@@ -31,40 +31,25 @@ pub fn locate(text: &[u8], place: usize) -> Option<Position>
 pub fn count_lines(text: &[u8]) -> usize
     ensures { result ≡ lines text.now }
 {
-    let passed = pass_lines(text);
-    if passed.unfinished > 0 {
-        passed.line_ends + 1
-    } else {
-        passed.line_ends
-    }
+    line_ends(text) + usize::from(unfinished(text) > 0)
 }
 
-// The line ends of some bytes, and the bytes behind the last one.
-#[derive(Clone, Copy)]
-struct Passed {
-    line_ends: usize,
-    unfinished: usize,
-}
-
-fn pass_lines(bytes: &[u8]) -> Passed
-    ensures line_ends { result.line_ends ≡ line_ends bytes.now }
-    ensures unfinished { result.unfinished ≡ unfinished bytes.now }
-    ensures within { result.line_ends + result.unfinished ≤ length bytes.now }
+fn line_ends(bytes: &[u8]) -> usize
+    ensures { result ≡ line_ends bytes.now }
 {
-    let mut line_ends = 0;
-    let mut unfinished = 0;
-    for byte in bytes {
-        if ends_line(*byte) {
-            line_ends += 1;
-            unfinished = 0;
-        } else {
-            unfinished += 1;
-        }
-    }
-    Passed {
-        line_ends,
-        unfinished,
-    }
+    bytes.iter().filter(|byte| ends_line(**byte)).count()
+}
+
+// The bytes behind the last line end.
+fn unfinished(bytes: &[u8]) -> usize
+    ensures value { result ≡ unfinished bytes.now }
+    ensures within { result ≤ length bytes.now }
+{
+    bytes
+        .iter()
+        .rev()
+        .take_while(|byte| !ends_line(**byte))
+        .count()
 }
 
 fn ends_line(byte: u8) -> bool

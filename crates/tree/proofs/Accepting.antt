@@ -72,7 +72,7 @@ module _ (n : ℕ) (bs : List ℕ) where
   made_put : (os now : List ℕ) (p : ℕ) (k : LexemeKind) (s : Stack) → length os ≤ nesting_limit → opened os p k ≡ Ok now → Longest k n bs → Made (length now) s (drop n bs) → Made (length os) (put k (take n bs) s) bs
   made_put os now p L.Open s fits e l m =
       made_open (length os) s.chain s.behind l (subst (λ d. Made d s (drop n bs)) (length-opened os p L.Open now e) m)
-  made_put [] now p L.Close s fits e l m = absurd (let z : ◌≡◌ {A = ℕ} 0 1 = cc in omega arith)
+  made_put [] now p L.Close s fits e l m = absurd cc
   made_put (o ∷ os) now p L.Close s fits e l m =
       let q : os ≡ now = cc in made_close (length os) s fits l (subst (λ xs. Made (length xs) s (drop n bs)) (sym q) m)
   made_put os now p (L.Token k) s fits e l m = let q : os ≡ now = cc in made_token (length os) s k l (subst (λ xs. Made (length xs) s (drop n bs)) (sym q) m)
@@ -85,7 +85,7 @@ pieces_made =
     let none : [] ≡ ps = cc (end.0, h) in
     subst (λ qs. Made (length os) (built qs) bs) none
     (record { behind = sym (ap length end.1); prints = sym end.2; tokens = (tt, tt); apart = (tt, tt); shallow = (omega arith, tt) }))
-    (λ os p bs f e fits ps h. absurd (let z : ◌≡◌ {A = ℕ} 0 1 = cc (pieces_fault os p bs f e, h) in omega arith))
+    (λ os p bs f e fits ps h. absurd (cc (pieces_fault os p bs f e, h)))
     (λ os p bs s e after fits ps h.
     let n = s.lexeme.len in
     let t = taken os p bs s e in
@@ -109,4 +109,4 @@ accepting text t h = by (reading text) refl h
     by (Ok ps) e h =
         let q : tree_of ps ≡ t = cc in
         subst (λ u. WellFormed u × (printed u ≡ text)) q (whole text (tree_of ps) (built ps).behind (pieces_made [] 0 text (omega arith) ps e))
-    by (Err f) e h = absurd (let z : ◌≡◌ {A = ℕ} 0 1 = cc in omega arith)
+    by (Err f) e h = absurd cc

@@ -14,7 +14,7 @@ use Rattle.syntax.specs.declared.class.Class.{Class}
 use Rattle.syntax.specs.declared.class.Class.TheVariants as C
 use Rattle.syntax.specs.declared.fault.ReadFault.{ReadFault}
 use Rattle.syntax.specs.declared.fault.ReadFault.TheVariants as R
-use Rattle.syntax.specs.declared.fault.TokenFault.{TokenFault}
+use Rattle.syntax.specs.Layers.{TokenFault}
 use Rattle.syntax.specs.declared.kind.Kind.{Kind}
 use Rattle.syntax.specs.declared.kind.Kind.TheVariants as K
 use Rattle.syntax.specs.declared.lexeme.Lexeme.{Lexeme}
@@ -105,10 +105,10 @@ token_read K.Comment p bs ys h fits stops = delimited_read K.Comment C.Comment C
 -- a step, from the lexeme that is read and the forms that are open then
 some_ok : (r : Result Lexeme TokenFault) (l : Lexeme) → some r ≡ Ok (Some l) → r ≡ Ok l
 some_ok (Ok m) l h = cc
-some_ok (Err f) l h = absurd (let z : ◌≡◌ {A = ℕ} 0 1 = cc in omega arith)
+some_ok (Err f) l h = absurd cc
 
 next_read : (os now : List ℕ) (p : ℕ) (xs : List ℕ) (l : Lexeme) → lexeme_at p xs ≡ Ok (Some l) → opened os p l.kind ≡ Ok now → next os p xs ≡ Ok (Some (record { lexeme = l; opens = now }))
-next_read os now p [] l h e = absurd (let z : ◌≡◌ {A = ℕ} 0 1 = cc in omega arith)
+next_read os now p [] l h e = absurd cc
 next_read os now p (b ∷ bs) l h e =
     ap (λ r. then (then (raised R.Token r) (entered os p)) (λ s. Ok (Some s))) (some_ok (lexeme p b bs) l h)
     ∙ ap (λ r. then (then {B = Step} (raised R.Bracket r) (λ now. Ok (record { lexeme = l; opens = now }))) (λ s. Ok (Some s))) e
@@ -200,4 +200,4 @@ pub equal_prints : (t u : Tree) → WellFormed t → WellFormed u → printed t 
 equal_prints t u v w e = let q : Ok t ≡ Ok u = sym (rereading t v) ∙ ap tree_read e ∙ rereading u w in cc
 
 pub no_print : (text : List ℕ) (f : ReadFault) → tree_read text ≡ Err f → (t : Tree) → WellFormed t → printed t ≡ text → ⊥
-no_print text f h t w e = let q : Ok t ≡ Err f = sym (rereading t w) ∙ ap tree_read e ∙ h in let z : ◌≡◌ {A = ℕ} 0 1 = cc in omega arith
+no_print text f h t w e = let q : Ok t ≡ Err f = sym (rereading t w) ∙ ap tree_read e ∙ h in cc

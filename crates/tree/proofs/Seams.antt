@@ -42,7 +42,7 @@ none_apart nil n h = tt
 none_apart (token k bs r) n h = by (clash (I.Token k) (first_kind r)) refl h (none_apart r (suc n))
   where
     by : (b : Bool) → clash (I.Token k) (first_kind r) ≡ b → cond b (Some (suc n)) (clash_from (suc n) r) ≡ None → (clash_from (suc n) r ≡ None → TopApart r) → (clash (I.Token k) (first_kind r) ≡ false) × TopApart r
-    by true e h rest = absurd (let z : ◌≡◌ {A = ℕ} 0 1 = cc in omega arith)
+    by true e h rest = absurd cc
     by false e h rest = (e, rest h)
 none_apart (form i r) n h = none_apart r (suc n) h
 

@@ -1,7 +1,7 @@
-use Rattle.notation.proofs.Digits.{none_case, not_spaced}
+use Rattle.notation.proofs.Digits.{not_spaced}
 use Rattle.notation.proofs.numbers.spaced_number.Goals as goal
 
 pub returns-in_err-rest : goal.returns-in_err-rest
 returns-in_err-rest c =
-    none_case _ c.from_residual-in_err-rest.result c.from_residual-in_err-rest.ensures
+    rw c.from_residual-in_err-rest.ensures
     (not_spaced c.args.bytes.now c.in_ok-value.behind.now c.in_ok-value.value c.in_ok-value.ensures c.in_err-rest.ensures)

@@ -2,5 +2,5 @@ use Rattle.std.proofs.Common.{rules}
 use Rattle.notation.proofs.Digits.{not_whole}
 use Rattle.notation.proofs.numbers.whole_number.Goals as goal
 
-pub returns-else-is_empty : goal.returns-else-is_empty
-returns-else-is_empty c = search (rules, not_whole c.args.bytes.now c.in_ok-value.behind.now c.in_ok-value.value c.in_ok-value.ensures)
+pub returns-in_default : goal.returns-in_default
+returns-in_default c = search (rules, not_whole c.args.bytes.now c.in_ok-value.field-0.1.now c.in_ok-value.field-0.0 c.in_ok-value.ensures)

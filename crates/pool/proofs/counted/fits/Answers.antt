@@ -1,41 +1,19 @@
-use Rattle.std.proofs.Common.{◌≡◌, Bool, true, false, not, length, sym, refl, ap, ◌∙◌, arith}
-use mathlib.Core.Bool.{beq}
-use Rattle.std.proofs.lemmas.List.{length-map}
-use Rattle.std.proofs.lemmas.Bool.{false≢true}
-use Rattle.pool.specs.Cells.{live}
-use Rattle.pool.proofs.Fitting.{fits_bit, bits_fit}
+use Rattle.std.proofs.Common.{◌≡◌, false, get_or, sym, refl, ◌∙◌, subst, zero-le, zero-add, rules, tests, arith}
+use Rattle.std.specs.Bool.{⊤}
+use Rattle.std.proofs.lemmas.Bool.{MatchBool-at_true}
+use Rattle.std.proofs.lemmas.Iterator.{cases_from_all, YieldsList-from_range}
+use Rattle.std.proofs.lemmas.List.FromFn.{length-range_with_len, get_or-range_with_len}
+use Rattle.pool.specs.Cells.{live, at}
+use Rattle.pool.proofs.Fitting.{bits_fit}
 use Rattle.pool.proofs.counted.fits.Goals as goal
 
-differ : (x y : Bool) → not (beq x y) ≡ true → x ≡ y → ⊥
-differ true true h e = false≢true h
-differ true false h e = false≢true (sym e)
-differ false true h e = false≢true e
-differ false false h e = false≢true h
-
-pub returns-then-capacity-size : goal.returns-then-capacity-size
-returns-then-capacity-size g c =
-    record {
-      yes = λ e. absurd (false≢true e);
-      no = λ fits. absurd (c.if-capacity-size.true (c.capacity-capacity.ensures ∙ ap length fits ∙ length-map c.args.cells.now live));
-    }
-
-pub returns-then-is_allocated-is_live : goal.returns-then-is_allocated-is_live
-returns-then-is_allocated-is_live g c =
-    record {
-      yes = λ e. absurd (false≢true e);
-      no =
-          λ fits. absurd
-          (differ c.is_allocated.result c.is_live.result c.if-is_allocated-is_live.true
-          (c.is_allocated.ensures
-          ∙ fits_bit g.C.CellKind.empty c.args.cells.now _ fits c.loop-n.n (omega (arith, c.loop-n-test.true, c.if-capacity-size.false))
-          ∙ sym c.is_live.ensures));
-    }
-
-pub returns : goal.returns
-returns g c =
-    record {
-      yes =
-          λ _. bits_fit g.C.CellKind.empty c.args.cells.now _ (sym c.capacity-capacity.ensures ∙ c.if-capacity-size.false)
-          (λ k lt. c.loop-n.invariant k (omega (arith, lt, c.capacity-capacity.ensures, c.loop-n-test.false)));
-      no = λ _. refl;
-    }
+pub returns-then-capacity-size-clause-yes : goal.returns-then-capacity-size-clause-yes
+returns-then-capacity-size-clause-yes g c all =
+    let blank = g.C.CellKind.empty in
+    let cells = c.args.cells.now in
+    let bits = g.A.CellAllocator.allocated c.args.allocator.now in
+    let capacity = c.capacity-capacity.result in
+    let each = cases_from_all _ _ c.all.result (λ n. get_or bits n false ≡ live (at blank cells n)) (λ n. ⊤) c.all.ensures.ran (YieldsList-from_range 0 capacity capacity refl (omega arith)) (λ x q k. search (rules, tests)) (λ x q k. tt) in
+    bits_fit blank cells bits (sym c.capacity-capacity.ensures ∙ c.if-capacity-size.true)
+    (λ k lt. subst (λ n. get_or bits n false ≡ live (at blank cells n)) (get_or-range_with_len 0 capacity k k (omega (arith, c.capacity-capacity.ensures)) ∙ zero-add k)
+    (MatchBool-at_true _ _ all each k k zero-le (omega (arith, c.capacity-capacity.ensures, length-range_with_len 0 capacity))))

@@ -1,16 +1,14 @@
-use Rattle.std.proofs.Common.{[], ◌∷◌, ◌++◌, ◌∙◌, arith}
-use Rattle.std.proofs.lemmas.List.{length-set, take_more_set, replicate_more, drop-set-lt}
-use Rattle.pool.specs.Cells.{vacant}
+use Rattle.std.proofs.Common.{◌≡◌, length, take, drop, replicate, ◌++◌, sym, ap, ◌∙◌, rules, tests, arith}
+use Rattle.std.proofs.lemmas.List.{length-take-le}
+use Rattle.std.proofs.Math.Seq.{take-append_seam}
+use Rattle.pool.proofs.Filling.{filled}
 use Rattle.pool.proofs.lent.blank_front.Goals as goal
 
-pub loop-n-preserved : goal.loop-n-preserved
-loop-n-preserved g c =
-    let cells = c.loop-n.cells in
-    let n = c.loop-n.n in
-    let inv = c.loop-n.invariant in (
-      length-set cells n _ ∙ inv.0,
-      take_more_set cells n _ (omega (arith, c.loop-n-test.true, inv.0, c.min-size.ensures))
-          ∙ (λ i. inv.1 i ++ (vacant (c.blank.ensures i) ∷ []))
-          ∙ replicate_more n (vacant g.C.CellKind.empty),
-      drop-set-lt c.min-size.result cells n _ c.loop-n-test.true ∙ inv.2,
-    )
+pub returns-clause-front : goal.returns-clause-front
+returns-clause-front g c =
+    let front = c.fill_with.new.self in
+    let long : length front ≡ c.min-size.result = omega (arith, c.fill_with.ensures.len, length-take-le c.min-size.result c.args.cells.now, c.min-size.ensures) in
+    ap (λ n. take n (front ++ drop c.min-size.result c.args.cells.now)) (sym long)
+    ∙ take-append_seam front (drop c.min-size.result c.args.cells.now)
+    ∙ filled _ _ c.vacant-vacant.result (λ x q k. search (rules, tests)) front _ c.fill_with.ensures.ran.1
+    ∙ (λ i. replicate (long i) (c.vacant-vacant.ensures i))

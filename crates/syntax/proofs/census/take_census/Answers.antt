@@ -12,8 +12,10 @@ use Rattle.syntax.proofs.census.take_census.Goals as goal
 use Rattle.syntax.proofs.census.take_census.Goals.{In-Some}
 
 pub loop-lexeme-init : goal.loop-lexeme-init
-loop-lexeme-init c =
-    sofar_none c.args.text.now c.new-reader.result c.new-census.result c.new-reader.ensures.text c.new-reader.ensures.place c.new-reader.ensures.opens c.new-census.ensures
+loop-lexeme-init c = record {
+  sofar = sofar_none c.args.text.now c.new-reader.result c.default-census.result c.new-reader.ensures.text c.new-reader.ensures.place c.new-reader.ensures.opens (search rules);
+  at_depth = sym (ap length c.new-reader.ensures.opens);
+}
 
 -- both clauses, of a result that is the census
 both : (text : List ℕ) (r : Result Census ReadFault) → r ≡ census text → record { value : r ≡ census text; within : IfErr r (λ f. place_of f ≤ length text) }
@@ -27,12 +29,12 @@ pub returns-in_err-lexeme : goal.returns-in_err-lexeme
 returns-in_err-lexeme c =
     let p = err_from_is_err_and c.from_residual.result c.from_residual.ensures.1 in
     let fault = left_fault c.loop-lexeme.reader c.next.new.self c.next.result _ c.next.ensures c.in_err-lexeme.was in
-    both c.args.text.now _ (p.1 ∙ ap Err p.2 ∙ sofar_fault c.loop-lexeme.invariant _ fault)
+    both c.args.text.now _ (p.1 ∙ ap Err p.2 ∙ sofar_fault c.loop-lexeme.invariant.sofar _ fault)
 
-pub returns-in_default : goal.returns-in_default
-returns-in_default c =
+pub returns : goal.returns
+returns c =
     both c.args.text.now _
-    (sofar_end c.loop-lexeme.invariant (left_end c.loop-lexeme.reader c.next.new.self c.next.result c.next.ensures (c.in_ok-lexeme.was ∙ ap Ok c.in_default.is)))
+    (sofar_end c.loop-lexeme.invariant.sofar (left_end c.loop-lexeme.reader c.next.new.self c.next.result c.next.ensures (c.in_ok-lexeme.was ∙ ap Ok c.in_default.is)))
 
 -- where the reader is after a lexeme
 on : (c : In-Some) → Onward c.loop-lexeme.reader c.next.new.self c.in-Some.lexeme
@@ -44,19 +46,22 @@ count-requires c =
     let moved = o.place in
     let some = o.some in
     let within = o.within in
-    let same = ap length c.loop-lexeme.invariant.same in
+    let same = ap length c.loop-lexeme.invariant.sofar.same in
     let fits : length c.args.text.now < 2 ^ 64 = search rules in
     let shallow = c.loop-lexeme.reader.opens.within in
-    let depth = c.depth-depth.ensures ∙ length-newest c.loop-lexeme.reader.opens.places c.loop-lexeme.reader.opens.depth in
+    let depth = c.loop-lexeme.invariant.at_depth ∙ length-newest c.loop-lexeme.reader.opens.places c.loop-lexeme.reader.opens.depth in
     record {
-      room = sofar_room c.loop-lexeme.invariant (omega arith);
+      room = sofar_room c.loop-lexeme.invariant.sofar (omega arith);
       shallow = omega arith;
     }
 
 pub loop-lexeme-smaller : goal.loop-lexeme-smaller
-loop-lexeme-smaller c = (onward_less c.args.text.now c.loop-lexeme.reader c.next.new.self c.in-Some.lexeme c.loop-lexeme.invariant.same (on (goal.at.loop-lexeme-smaller c).In-Some)).1
+loop-lexeme-smaller c = (onward_less c.args.text.now c.loop-lexeme.reader c.next.new.self c.in-Some.lexeme c.loop-lexeme.invariant.sofar.same (on (goal.at.loop-lexeme-smaller c).In-Some)).1
 
 pub loop-lexeme-preserved : goal.loop-lexeme-preserved
-loop-lexeme-preserved c =
-    subst (Sofar c.args.text.now c.next.new.self) (sym (c.count.ensures ∙ ap (counted c.loop-lexeme.census c.in-Some.lexeme.kind) c.depth-depth.ensures))
-    (sofar_more c.loop-lexeme.invariant c.next.new.self c.in-Some.lexeme (on (goal.at.loop-lexeme-preserved c).In-Some))
+loop-lexeme-preserved c = record {
+  sofar =
+      subst (Sofar c.args.text.now c.next.new.self) (sym (c.count.ensures ∙ ap (counted c.loop-lexeme.census c.in-Some.lexeme.kind) c.loop-lexeme.invariant.at_depth))
+      (sofar_more c.loop-lexeme.invariant.sofar c.next.new.self c.in-Some.lexeme (on (goal.at.loop-lexeme-preserved c).In-Some));
+  at_depth = c.depth-depth.ensures;
+}

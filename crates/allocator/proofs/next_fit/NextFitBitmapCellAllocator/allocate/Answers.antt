@@ -1,31 +1,21 @@
-use Rattle.std.proofs.Common.{◌≡◌, ◌<◌, false, get_or, sym, refl, ap, ◌∙◌, subst, arith, rules}
-use Rattle.allocator.specs.Allocations.{Allocates, behind}
-use Rattle.allocator.specs.Bitmaps.{bits}
-use Rattle.allocator.specs.Bounded.{length_bits}
-use Rattle.allocator.proofs.Searching.{next_fit_some, next_fit_none, counts-set}
+use Rattle.std.proofs.Common.{◌≡◌, ◌<◌, false, true, length, get_or, sym, refl, ap, subst, arith, rules}
+use Rattle.std.proofs.lemmas.List.{length-set}
+use Rattle.allocator.specs.Allocations.{clear, Allocates}
+use Rattle.allocator.proofs.Searching.{next_fit_some, next_fit_none, clear-set}
 use Rattle.allocator.proofs.next_fit.NextFitBitmapCellAllocator.allocate.Goals as goal
 use Rattle.allocator.proofs.next_fit.NextFitBitmapCellAllocator.allocate.Goals.{In_ok-index}
 
-pub returns-in_err-index : goal.returns-in_err-index
-returns-in_err-index c =
+pub returns-in_err-index-clause-allocates : goal.returns-in_err-index-clause-allocates
+returns-in_err-index-clause-allocates c =
     let a = c.args.self.now in
-    let none = sym c.find.ensures ∙ c.in_err-index.was in
-    record {
-      allocates = subst (λ o. Allocates (bits a.words a.capacity) o (bits a.words a.capacity)) (sym c.from_residual.ensures) (next_fit_none (bits a.words a.capacity) a.next none, refl);
-      moves = sym (ap (λ o. behind o a.next) c.from_residual.ensures);
-      picks = c.from_residual.ensures ∙ sym none;
-    }
+    subst (λ o. Allocates a.bitmap o a.bitmap) (sym c.from_residual.ensures) (next_fit_none a.bitmap a.next (sym c.in_err-index.ensures), refl)
 
 -- the number that was found is below the capacity, and free
-found : (c : In_ok-index) → (c.in_ok-index.index < c.args.self.now.capacity) × (get_or (bits c.args.self.now.words c.args.self.now.capacity) c.in_ok-index.index false ≡ false)
-found c =
-    let a = c.args.self.now in
-    let long = length_bits a.words a.capacity in
-    let r = next_fit_some (bits a.words a.capacity) a.next c.in_ok-index.index (omega (arith, a.starts)) (sym c.find.ensures ∙ c.in_ok-index.was) in
-    (omega (arith, r.0), r.1)
+found : (c : In_ok-index) → (c.in_ok-index.index < length c.args.self.now.bitmap) × (get_or c.args.self.now.bitmap c.in_ok-index.index false ≡ false)
+found c = let a = c.args.self.now in next_fit_some a.bitmap a.next c.in_ok-index.index a.starts (sym c.in_ok-index.ensures)
 
-pub set_bit-requires : goal.set_bit-requires
-set_bit-requires c = omega (arith, (found (goal.at.set_bit-requires c).In_ok-index).0, c.args.self.now.within)
+pub set-requires : goal.set-requires
+set-requires c = (found (goal.at.set-requires c).In_ok-index).0
 
 pub overflow_add-self : goal.overflow_add-self
 overflow_add-self c =
@@ -37,19 +27,6 @@ pub invariant_of-self : goal.invariant_of-self
 invariant_of-self c =
     let a = c.args.self.now in
     let f = found (goal.at.invariant_of-self c).In_ok-index in
-    record {
-      within = a.within;
-      starts = omega (arith, f.0);
-      counts = counts-set a.words c.set_bit.new.words a.capacity c.in_ok-index.index a.used f.0 f.1 (c.set_bit.ensures a.capacity f.0) a.counts;
-    }
-
-pub returns : goal.returns
-returns c =
-    let a = c.args.self.now in
-    let f = found (goal.at.returns c).In_ok-index in
-    let long = length_bits a.words a.capacity in
-    record {
-      allocates = (omega (arith, f.0), f.1, c.set_bit.ensures a.capacity f.0);
-      moves = refl;
-      picks = sym c.in_ok-index.was ∙ c.find.ensures;
-    }
+    let one = clear-set a.bitmap c.in_ok-index.index f.0 f.1 in
+    let long = length-set a.bitmap c.in_ok-index.index true in
+    record { within = omega (arith, a.within, ap length c.set.ensures); starts = omega (arith, f.0, ap length c.set.ensures); counts = omega (arith, a.counts, ap clear c.set.ensures, ap length c.set.ensures) }

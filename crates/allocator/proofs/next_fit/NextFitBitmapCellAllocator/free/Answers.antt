@@ -1,32 +1,11 @@
-use Rattle.std.proofs.Common.{◌≡◌, ◌+◌, ◌-◌, ◌≤◌, sym, refl, arith}
-use Rattle.allocator.specs.Allocations.{clear}
-use Rattle.allocator.specs.Bitmaps.{bits}
-use Rattle.allocator.proofs.Searching.{allocated_below, counts_unset}
+use Rattle.std.proofs.Common.{not, false, set, arith}
+use Rattle.std.proofs.lemmas.List.{length-set}
+use Rattle.std.proofs.lemmas.List.Sums.{count_by-le-length}
+use Rattle.allocator.proofs.Searching.{clear_unset, set_within}
 use Rattle.allocator.proofs.next_fit.NextFitBitmapCellAllocator.free.Goals as goal
-use Rattle.allocator.proofs.next_fit.NextFitBitmapCellAllocator.free.Goals.{After-clear_bit}
-
--- the number is one of the bits, and set
-pub clear_bit-requires : goal.clear_bit-requires
-clear_bit-requires c =
-    let a = c.args.self.now in
-    let b = allocated_below a.words a.capacity c.args.index (sym c.if-not-is_allocated.ensures) in
-    record { set = omega (arith, b.0, a.within); was = b.1 }
-
-counts : (c : After-clear_bit) → (1 ≤ c.args.self.now.used) × (clear (bits c.clear_bit.new.words c.args.self.now.capacity) + (c.args.self.now.used - 1) ≡ c.args.self.now.capacity)
-counts c =
-    let a = c.args.self.now in
-    let was = sym c.if-not-is_allocated.ensures in
-    let b = allocated_below a.words a.capacity c.args.index was in
-    counts_unset a.words c.clear_bit.new.words a.capacity c.args.index a.used b.0 was (c.clear_bit.ensures a.capacity b.0) a.counts
 
 pub overflow_sub-self : goal.overflow_sub-self
-overflow_sub-self c = (counts c).0
-
-pub invariant_of-self : goal.invariant_of-self
-invariant_of-self c = record { within = c.args.self.now.within; starts = c.args.self.now.starts; counts = (counts c).1 }
-
-pub returns : goal.returns
-returns c =
+overflow_sub-self c =
     let a = c.args.self.now in
-    let was = sym c.if-not-is_allocated.ensures in
-    record { frees = (was, c.clear_bit.ensures a.capacity (allocated_below a.words a.capacity c.args.index was).0); stays = refl }
+    let freed = c.if-not-clear.ensures in
+    omega (arith, a.counts, clear_unset a.bitmap c.args.index (set_within _ _ freed.0) freed.0, count_by-le-length not (set a.bitmap c.args.index false), length-set a.bitmap c.args.index false)

@@ -1,9 +1,6 @@
 use Rattle.std.proofs.Common.{rules}
-use Rattle.syntax.proofs.Stacks.{length-newest, newest_push, newest_pop}
+use Rattle.syntax.proofs.Stacks.{length-newest, newest_push}
 use Rattle.syntax.proofs.open_forms.OpenForms.enter.Goals as goal
 
 pub returns-else-self-ge-NESTING_LIMIT : goal.returns-else-self-ge-NESTING_LIMIT
 returns-else-self-ge-NESTING_LIMIT c = search (rules, length-newest, newest_push)
-
-pub returns-else-self-eq0 : goal.returns-else-self-eq0
-returns-else-self-eq0 c = search (rules, newest_pop)

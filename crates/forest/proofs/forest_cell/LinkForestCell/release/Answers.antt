@@ -1,0 +1,7 @@
+use Rattle.forest.specs.Blanks.{blank_link}
+use Rattle.forest.specs.Pools.{link_pool}
+use Rattle.forest.proofs.Putting.{release_moves_in}
+use Rattle.forest.proofs.forest_cell.LinkForestCell.release.Goals as goal
+
+pub returns-clause-moved : goal.returns-clause-moved
+returns-clause-moved g c = release_moves_in link_pool blank_link c.args.forest.now c.requires.covers _ c.args.n c.release.result c.release.ensures.releases c.requires.held
