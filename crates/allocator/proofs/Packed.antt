@@ -133,6 +133,18 @@ run_of w k fits low =
     })
     (cases_lt (w / 2 ^ k + 1) (2 ^ 64))
 
+-- behind the bits of a full word
+pub full_word : (ws : List ℕ) (cap word low : ℕ) → slice_index ws word ≡ 2 ^ 64 - 1 → word * 64 ≤ low → low ≤ word * 64 + 64 → first_clear (drop low (bits ws cap)) low ≡ first_clear (drop (word * 64 + 64) (bits ws cap)) (word * 64 + 64)
+full_word ws cap word low full from to =
+    let e : low + (word * 64 + 64 - low) ≡ word * 64 + 64 = omega arith in
+    first_clear_skip (bits ws cap) low (word * 64 + 64 - low) (λ i above below inside. get_d_bits ws cap i (omega (arith, length_bits ws cap)) ∙ one i above (omega arith))
+    ∙ ap (λ n. first_clear (drop n (bits ws cap)) n) e
+  where
+    one : (i : ℕ) → low ≤ i → i < word * 64 + 64 → bit_at ws i ≡ true
+    one i above below =
+        let here : i / 64 ≡ word = omega arith in
+        ap (λ q. bit (slice_index ws q) (i % 64)) here ∙ ap (λ w. bit w (i % 64)) full ∙ ap (λ x. x == 1) (bit_at_ones 64 (i % 64) (omega arith))
+
 -- the bits of one word from `low` on: those that are set are passed over
 module _ (ws : List ℕ) (cap word low t : ℕ) (within : word < 64) (fits : slice_index ws word < 2 ^ 64) (here : low / 64 ≡ word) (is : t ≡ trailing_ones w64 (slice_index ws word / 2 ^ (low % 64))) where
   run : Run (slice_index ws word) (low % 64) t

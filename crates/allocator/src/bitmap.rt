@@ -81,6 +81,10 @@ impl Bitmap {
     pub fn first_clear(&self, from: CellIndex) -> Option<CellIndex>
         ensures { result ≡ first_clear (drop from self.now) from }
     {
+        // a search most often begins at a clear bit
+        if from < self.capacity && !self.get(from) {
+            return Some(from);
+        }
         // one word after the other, so that full ones are skipped whole
         for word in from / WORD_BITS..self.capacity.div_ceil(WORD_BITS) {
             if let Some(n) = self.first_clear_in(word, from) {
@@ -96,6 +100,10 @@ impl Bitmap {
         requires behind { from / 64 ≤ word }
         ensures { first_clear (drop (max from (word * 64)) self.now) (max from (word * 64)) ≡ option_or result (first_clear (drop (word * 64 + 64) self.now) (word * 64 + 64)) }
     {
+        // a full word takes one comparison
+        if self.words[word as usize] == u64::MAX {
+            return None;
+        }
         let low = from.max(word * WORD_BITS);
         let ones = (self.words[word as usize] >> (low % WORD_BITS)).trailing_ones();
         let n = low + ones as CellIndex;

@@ -116,7 +116,11 @@ impl CellKind for Version {
             pool: VERSIONS,
             index,
         });
-        root.into_iter().chain(older).nth(k)
+        match k {
+            0 => root.or(older),
+            1 => root.and(older),
+            _ => None,
+        }
     }
 }
 
@@ -137,6 +141,11 @@ impl CellKind for Link {
 
     fn slot(&self, k: usize) -> Option<Slot> {
         let tail = self.tail.map(|index| Slot { pool: LINKS, index });
-        self.head.slot().into_iter().chain(tail).nth(k)
+        let head = self.head.slot();
+        match k {
+            0 => head.or(tail),
+            1 => head.and(tail),
+            _ => None,
+        }
     }
 }

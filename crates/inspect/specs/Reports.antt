@@ -1,7 +1,8 @@
 -- The line that is printed for a file, from its name and its bytes. Assumes nothing.
 --
 -- well_formed text      the text keeps the limit and has no fault
--- holds_words b l c     what a text of b bytes and l lines holds, whose census is c
+-- holding_words h       what a text holds
+-- holds_words b l c     the same, of a text of b bytes and l lines whose census is c
 -- read_words text r     what is said behind the name where reading the text gave r
 -- report_line n text    the line for the file of name n that holds the text, without its line end
 -- outcome_words n o     what is said of the file of name n where o came of reading it; nothing is known of the words of a system's error
@@ -20,9 +21,13 @@ use Rattle.inspect.specs.declared.report.Holding.{Holding}
 abbrev pub well_formed : List ℕ → Bool
 well_formed text = nat_le (length text) text_limit && is_ok (census text)
 
+abbrev pub holding_words : Holding → List ℕ
+holding_words h =
+    decimal h.bytes ++ (codes " bytes, " ++ (decimal h.lines ++ (codes " lines, " ++ (decimal h.tokens ++ (codes " tokens, " ++ (decimal h.forms ++ (codes " forms, " ++ (decimal h.items ++ (codes " items, nesting " ++ decimal h.nesting)))))))))
+
 abbrev pub holds_words : ℕ → ℕ → Census → List ℕ
-holds_words bytes lines c =
-    decimal bytes ++ (codes " bytes, " ++ (decimal lines ++ (codes " lines, " ++ (decimal c.tokens ++ (codes " tokens, " ++ (decimal c.forms ++ (codes " forms, " ++ (decimal c.items ++ (codes " items, nesting " ++ decimal c.nesting)))))))))
+holds_words b l c =
+    holding_words (record { bytes = b; lines = l; tokens = c.tokens; forms = c.forms; items = c.items; nesting = c.nesting })
 
 abbrev pub read_words : List ℕ → Result Census ReadFault → List ℕ
 read_words text (Ok c) = codes ": ok: " ++ holds_words (length text) (lines text) c
@@ -33,7 +38,7 @@ report_line name text =
     name ++ cond (nat_le (length text) text_limit) (read_words text (census text)) (codes ": error: file is longer than 32000 bytes")
 
 abbrev pub outcome_words : List ℕ → Result Holding Complaint → Option (List ℕ)
-outcome_words name (Ok h) = Some (name ++ (codes ": ok: " ++ holds_words h.bytes h.lines h.census))
+outcome_words name (Ok h) = Some (name ++ (codes ": ok: " ++ holding_words h))
 outcome_words name (Err (X.Faulty p f)) = Some (name ++ (codes ":" ++ (position_words p ++ (codes ": error: " ++ fault_words f))))
 outcome_words name (Err X.TooLong) = Some (name ++ codes ": error: file is longer than 32000 bytes")
 outcome_words name (Err (X.Unreadable e)) = None

@@ -65,6 +65,20 @@ pub fn outline(heap: Global, text: &[u8]) -> Result<String, OutlineFault>
     }
 }
 
+// No line has more bytes: the indent of sixteen forms, the longest words, three numbers' digits, and a token's 32 bytes by two.
+const LINE_ROOM: usize = 128;
+
+// Makes room for one more line. Where there is none, there will be a sixteenth more than there was: the text alone would double its
+// room, and hold twice what it needs just behind a doubling.
+fn make_room(out: &mut String) -> Result<(), AllocError>
+    ensures { string_bytes out.new ≡ string_bytes out.old }
+{
+    if out.capacity().saturating_sub(out.len()) < LINE_ROOM {
+        out.reserve_exact(LINE_ROOM + out.len() / 16)?;
+    }
+    Ok(())
+}
+
 // The line for the item that a lexeme begins, if it begins one. The reader stands behind the lexeme.
 // Depth and place come along one by one: only here are the kind and the length known that make a `Head` of them.
 fn push_item(
@@ -78,6 +92,7 @@ fn push_item(
     requires { place_of reader ≡ place + length bytes.now }
     ensures { MatchResult result (λ _. (qs : List Piece) → left reader.entry ≡ Ok qs → string_bytes out.new ≡ string_bytes out.old ++ line_by kind depth place bytes.now qs) (λ e. Told e (λ f. left reader.entry ≡ Err f)) }
 {
+    make_room(out)?;
     match kind {
         LexemeKind::Open => {
             let head = Head {
@@ -130,7 +145,7 @@ impl fmt::Display for ShownByte {
             b'\t' => f.write_str("\\t"),
             b'"' => f.write_str("\\\""),
             b'\\' => f.write_str("\\\\"),
-            byte => f.write_char(char::from(byte)),
+            byte => f.write_str(char::from(byte).encode_utf8(&mut [0; 4])),
         }
     }
 }

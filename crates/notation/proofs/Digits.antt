@@ -1,16 +1,17 @@
 -- Numbers at the front of bytes. Assumes nothing.
-use Rattle.std.proofs.Common.{◌≡◌, ℕ, suc, ◌+◌, ◌^◌, ◌<◌, ◌≤◌, Bool, true, false, cond, List, [], ◌∷◌, ◌++◌, length, get_or, take, drop, decimal, Result, Ok, Err, sym, refl, ap, ◌∙◌, subst, ⊎_elim, arith, MatchOption}
-use Rattle.std.specs.Str.Parse.{digits_value, ParsesUnsigned}
+use Rattle.std.proofs.Common.{◌≡◌, ℕ, suc, ◌+◌, ◌-◌, ◌*◌, ◌%◌, ◌^◌, ◌<◌, ◌≤◌, Bool, true, false, cond, List, [], ◌∷◌, ◌++◌, length, get_or, take, drop, decimal, Result, Ok, Err, sym, refl, ap, ◌∙◌, subst, ⊎_elim, arith, MatchOption}
+use Rattle.std.specs.Str.Parse.{digits_value}
 use Rattle.std.specs.Char.{is_ascii_digit}
 use Rattle.std.specs.List.{prefix_len}
 use Rattle.std.specs.Str.{all_ascii_digits}
-use Rattle.std.proofs.lemmas.List.{nil_from_length, append-nil, take-append-drop}
-use Rattle.std.proofs.lemmas.Str.Parse.{IsNumeralModel, numerals_by_value, tells_all_ascii_digits, parse_digits}
-use Rattle.std.proofs.lemmas.Fmt.{decimal_digit, decimal-digits_value, digits_decimal, decimal_nonempty, decimal_injective, first_decimal, parse-decimal, IsAscii-from_digits}
+use Rattle.std.proofs.lemmas.List.{nil_from_length, append-nil, length-append, take-append-drop}
+use Rattle.std.proofs.lemmas.Str.Parse.{IsNumeralModel, numerals_by_value, tells_all_ascii_digits, digits_value_short}
+use Rattle.std.proofs.lemmas.Fmt.{decimal_digit, decimal-digits_value, digits_decimal, decimal_nonempty, length-decimal-le, decimal_injective, digits_value-decimal, first_decimal}
 use Rattle.std.proofs.lemmas.Bool.{cases_lt, and_parts, and_from}
-use Rattle.std.proofs.lemmas.Str.{IsUtf8-from_ascii}
-use Rattle.std.specs.Str.{IsUtf8}
-use Rattle.std.specs.Result.{result_ok}
+use Rattle.std.proofs.lemmas.Str.{digit_value_digit}
+use Rattle.std.proofs.lemmas.Int.Digits.{digits_value_push}
+use Rattle.std.specs.Int.{IsInRange}
+use Rattle.std.specs.Result.{result_ok, OkIff}
 use Rattle.notation.specs.Numbers.{number_bound, Stops, Front, spaced}
 
 own : IsNumeralModel (λ ds. all_ascii_digits ds ≡ true) (digits_value 10)
@@ -63,16 +64,40 @@ module _ (v : ℕ) (small : v < number_bound) where
       (λ none. ap length (decimal_digit v (omega (arith, none))))
       (cases_lt 0 v)
 
--- digits are text
-pub digits_utf8 : (ds : List ℕ) → all_ascii_digits ds ≡ true → IsUtf8 ds
-digits_utf8 ds all = IsUtf8-from_ascii ds (IsAscii-from_digits ds (own.to ds all))
+-- no number has no digits, or more than five
+module _ (ds : List ℕ) (v : ℕ) (small : v < number_bound) (e : ds ≡ decimal v) where
+  pub some_digits : length ds ≤ 0 → ⊥
+  some_digits none = absurd (omega (arith, none, ap length e, decimal_nonempty v (wide v small)))
+
+  pub few_digits : 6 ≤ length ds → ⊥
+  few_digits many = absurd (omega (arith, many, ap length e, length-decimal-le 5 v (omega arith) (omega (arith, small)) (wide v small)))
+
+-- the value of the digits so far, where they are few enough
+abbrev pub ValueOf : List ℕ → ℕ → Type 0
+ValueOf ds n = all_ascii_digits ds ≡ true → length ds ≤ 5 → n ≡ digits_value 10 ds
+
+all_before : (ds : List ℕ) (c : ℕ) → all_ascii_digits (ds ++ (c ∷ [])) ≡ true → (all_ascii_digits ds ≡ true) × IsInRange 48 57 c
+all_before [] c all = (refl, (tells_all_ascii_digits.parts c [] all).0)
+all_before (d ∷ ds) c all =
+    let parts = and_parts (is_ascii_digit d) (all_ascii_digits (ds ++ (c ∷ []))) all in
+    let others = all_before ds c parts.1 in
+    (and_from (is_ascii_digit d) (all_ascii_digits ds) parts.0 others.0, others.1)
+
+pub one_digit_more : (ds : List ℕ) (a c b : ℕ) → ValueOf ds a → b ≡ (a * 10 % 2 ^ 32 + (c + (2 ^ 8 - 48)) % 2 ^ 8) % 2 ^ 32 → ValueOf (ds ++ (c ∷ [])) b
+one_digit_more ds a c b so_far e all few =
+    let before = all_before ds c all in
+    let short : length ds ≤ 4 = omega (arith, length-append ds (c ∷ []), few) in
+    let value = so_far before.0 (omega (arith, short)) in
+    let small : digits_value 10 ds < 10 ^ 4 = digits_value_short own ds 4 before.0 short in
+    omega (arith, e, value, small, before.1, digit_value_digit c before.1, digits_value_push 10 ds c)
 
 -- what digits with no needless zero are read as
-pub read_so : {E : Type 0} (ds text : List ℕ) (r : Result ℕ E) → all_ascii_digits ds ≡ true → (get_or ds 0 0 ≡ 48 → length ds ≤ 1) → text ≡ ds → ParsesUnsigned 16 10 text r → MatchOption (result_ok r) ((v : ℕ) → v < number_bound → ds ≡ decimal v → ⊥) (λ v. (v < number_bound) × (ds ≡ decimal v))
-read_so {E = E} ds text (Ok v) all plain same h =
-    let read = parse_digits own {E = E} 16 ds (Ok v) (rw same at h) all in
-    (omega (arith, read.0.1, read.1), sym (ap decimal read.1 ∙ decimal-digits_value own ds all read.0.0 (λ e. omega (arith, plain e, read.0.0)) (omega (arith, read.0.1))))
-read_so {E = E} ds text (Err e) all plain same h = λ v small written. absurd (let read = parse-decimal {E = E} 16 v text (Err e) small (omega (arith, small)) (same ∙ written) h in cc)
+pub read_so : {E : Type 0} (ds : List ℕ) (n : ℕ) (r : Result ℕ E) → all_ascii_digits ds ≡ true → 1 ≤ length ds → length ds ≤ 5 → (get_or ds 0 0 ≡ 48 → length ds ≤ 1) → ValueOf ds n → OkIff r (n < number_bound) n → MatchOption (result_ok r) ((v : ℕ) → v < number_bound → ds ≡ decimal v → ⊥) (λ v. (v < number_bound) × (ds ≡ decimal v))
+read_so ds n (Ok v) all some few plain value h =
+    let same = h.1 ∙ value all few in
+    (omega (arith, h.0, h.1), sym (ap decimal same ∙ decimal-digits_value own ds all some (λ e. omega (arith, plain e, some)) (omega (arith, h.0, value all few))))
+read_so ds n (Err e) all some few plain value h =
+    λ v small written. absurd (let same = value all few ∙ ap (digits_value 10) written ∙ digits_value-decimal own v (wide v small) in h (omega (arith, same, small)))
 
 -- a number and what is behind it are told by the bytes
 pub front_unique : (bs : List ℕ) (v w : ℕ) (rest other : List ℕ) → Front bs v rest → Front bs w other → (v ≡ w) × (rest ≡ other)

@@ -1,7 +1,33 @@
--- Pieces that are put one after the other. Assumes nothing.
-use Rattle.std.proofs.Common.{◌≡◌, ℕ, ◌+◌, ◌-◌, ◌<◌, ◌≤◌, List, [], ◌∷◌, ◌++◌, length, get_or, take, drop, decimal, sym, ap, ◌∙◌, arith}
-use Rattle.std.proofs.lemmas.List.{append_assoc, append-nil, take-append-drop, take_more, drop-drop}
+-- A number that is spelt from its last digit to its first, and pieces that are put one after the other. Assumes nothing.
+use Rattle.std.proofs.Common.{◌≡◌, ℕ, ◌+◌, ◌-◌, ◌/◌, ◌%◌, ◌^◌, ◌<◌, ◌≤◌, List, [], ◌∷◌, ◌++◌, length, get_or, take, drop, set, decimal, sym, ap, ◌∙◌, arith}
+use Rattle.std.proofs.lemmas.List.{append_assoc, append-nil, length-append, length-drop, take-append-drop, take_more, drop-set, drop-drop}
 use Rattle.notation.specs.Numbers.{numbered}
+use Rattle.std.proofs.lemmas.Fmt.{decimal_digit, decimal_step, decimal_nonempty, length-decimal-le}
+
+-- what is left to spell, before the digits that are spelt
+abbrev pub Spelt : ℕ → ℕ → ℕ → List ℕ → Type 0
+Spelt number left first digits = (length digits ≡ 20) × (first ≤ 20) × (left < 2 ^ 64) × (decimal left ++ drop first digits ≡ decimal number)
+
+module _ (number left first : ℕ) (digits : List ℕ) (small : number < 2 ^ 64) (h : Spelt number left first digits) where
+  pub digit_room : 0 < first
+  digit_room =
+      let lengths : length (decimal left) + length (drop first digits) ≡ length (decimal number) = sym (length-append (decimal left) (drop first digits)) ∙ ap length h.3 in
+      omega (arith, lengths, length-drop first digits, h.0, h.1, decimal_nonempty left h.2, length-decimal-le 20 number (omega arith) (omega (arith, small)) small)
+
+  put_digit : (y : ℕ) → drop (first - 1) (set digits (first - 1) y) ≡ y ∷ drop first digits
+  put_digit y =
+      let again : first - 1 + 1 ≡ first = omega (arith, digit_room) in
+      drop-set digits (first - 1) y (omega (arith, digit_room, h.0, h.1)) ∙ ap (λ n. y ∷ drop n digits) again
+
+  pub one_more : 10 ≤ left → decimal (left / 10) ++ drop (first - 1) (set digits (first - 1) (48 + left % 10)) ≡ decimal number
+  one_more many =
+      ap (λ xs. decimal (left / 10) ++ xs) (put_digit (48 + left % 10))
+      ∙ sym (append_assoc (decimal (left / 10)) ((48 + left % 10) ∷ []) (drop first digits))
+      ∙ ap (λ xs. xs ++ drop first digits) (sym (decimal_step left many h.2))
+      ∙ h.3
+
+  pub last_one : left < 10 → drop (first - 1) (set digits (first - 1) (48 + left)) ≡ decimal number
+  last_one few = put_digit (48 + left) ∙ ap (λ xs. xs ++ drop first digits) (sym (decimal_digit left few)) ∙ h.3
 
 -- one number more behind others
 pub numbered_more : (ns : List ℕ) (i : ℕ) → i < length ns → numbered (take (i + 1) ns) ≡ numbered (take i ns) ++ (32 ∷ decimal (get_or ns i 0))

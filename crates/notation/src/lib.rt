@@ -4,5 +4,5 @@
 mod line;
 mod numbers;
 
-pub use line::{push_numbers, put_bytes};
+pub use line::{push_numbers, put_bytes, put_numbers};
 pub use numbers::{after, number, spaced_number, whole_number};

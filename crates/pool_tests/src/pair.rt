@@ -28,6 +28,10 @@ impl CellKind for Pair {
     }
 
     fn slot(&self, k: usize) -> Option<Slot> {
-        self.first.into_iter().chain(self.second).nth(k)
+        match k {
+            0 => self.first.or(self.second),
+            1 => self.first.and(self.second),
+            _ => None,
+        }
     }
 }

@@ -55,21 +55,30 @@ pub enum Command<'a> {
 /// The letter of a command.
 #[derive(Clone, Copy, PartialEq, Eq, Debug)]
 pub enum Letter {
-    Load = b'L' as isize,
-    Splice = b'S' as isize,
-    Fork = b'F' as isize,
-    Undo = b'U' as isize,
-    Release = b'R' as isize,
-    Print = b'P' as isize,
-    Same = b'E' as isize,
+    Load,
+    Splice,
+    Fork,
+    Undo,
+    Release,
+    Print,
+    Same,
 }
 
 impl Letter {
     /// The byte that a script has for it.
+    // Not its discriminant: a cast of the enum gives its place in the list, from 0.
     pub fn byte(self) -> u8
         ensures { result ≡ letter_byte self }
     {
-        self as u8
+        match self {
+            Letter::Load => b'L',
+            Letter::Splice => b'S',
+            Letter::Fork => b'F',
+            Letter::Undo => b'U',
+            Letter::Release => b'R',
+            Letter::Print => b'P',
+            Letter::Same => b'E',
+        }
     }
 }
 

@@ -9,17 +9,22 @@ use syntax::ReadFault;
 /// A pool of the store.
 #[derive(Clone, Copy, PartialEq, Eq, Debug)]
 pub enum PoolName {
-    Tokens = 1,
-    Links = 2,
-    Versions = 3,
+    Tokens,
+    Links,
+    Versions,
 }
 
 impl PoolName {
     /// The number by which refusals name the pool.
+    // Not its discriminant: a cast of the enum gives its place in the list, from 0.
     pub fn number(self) -> u8
         ensures { result ≡ pool_number self }
     {
-        self as u8
+        match self {
+            PoolName::Tokens => 1,
+            PoolName::Links => 2,
+            PoolName::Versions => 3,
+        }
     }
 }
 

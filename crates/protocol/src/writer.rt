@@ -1,7 +1,5 @@
 // Answers as bytes.
-ghost use Rattle.std.specs.Prelude.{◌≡◌, ◌<◌, ◌≤◌, true, false, ◌∷◌, ◌++◌, length, codes};
-ghost use Rattle.notation.specs.Numbers.{numbered};
-ghost use Rattle.protocol.specs.Letters.{letter_byte};
+ghost use Rattle.std.specs.Prelude.{◌≡◌, ◌≤◌, false, ◌∷◌, ◌++◌, length, take, codes};
 ghost use Rattle.protocol.specs.Answers.{answer_line, six, refused_letter, head, answer_bytes, Answered};
 ghost use Rattle.protocol.specs.Refusals.{refusal_number, besides};
 
@@ -9,34 +7,27 @@ use crate::answer::Answer;
 use crate::command::Letter;
 use crate::refusal::Refusal;
 use crate::report::Report;
-use arrayvec::ArrayString;
-use notation::{push_numbers, put_bytes};
+use notation::{put_bytes, put_numbers};
 
 // Room for the line of any answer: status and letter, six numbers of at most 21 bytes with their spaces, and the end.
 const LINE_ROOM: usize = 160;
 
-// The line of an answer: how it begins, a letter, numbers and the end. Its pieces are pushed, since the contract of `write!` does
-// not say when it succeeds.
-fn line(opening: &str, letter: char, numbers: &[u64]) -> ArrayString<LINE_ROOM>
-    requires short { length opening.now ≤ 4 }
-    requires plain { letter < 128 }
+// Puts the line of an answer, and answers its length. Pushed to an `ArrayString`, short lines take two to three times as long.
+fn put_line(line: &mut [u8], accepted: bool, letter: u8, numbers: &[u64]) -> usize
+    requires room { length line.old ≡ 160 }
     requires few { length numbers.now ≤ 6 }
-    ensures { result.bytes ≡ opening.now ++ (letter ∷ (numbered numbers.now ++ codes ")\n")) }
+    ensures put { take result line.new ≡ answer_line accepted letter numbers.now }
+    ensures length { length line.new ≡ 160 }
+    ensures within { result ≤ 160 }
 {
-    let mut line = ArrayString::new();
-    line.push_str(opening);
-    line.push(letter);
-    push_numbers(&mut line, numbers);
-    line.push_str(")\n");
-    line
-}
-
-// The line for a command that was carried out.
-fn accepted(letter: Letter, numbers: &[u64]) -> ArrayString<LINE_ROOM>
-    requires { length numbers.now ≤ 6 }
-    ensures { result.bytes ≡ answer_line true (letter_byte letter) numbers.now }
-{
-    line("(ok ", char::from(letter.byte()), numbers)
+    let place = if accepted {
+        put_bytes(line, 0, b"(ok ")
+    } else {
+        put_bytes(line, 0, b"(no ")
+    };
+    let place = put_bytes(line, place, &[letter]);
+    let place = put_numbers(line, place, numbers);
+    put_bytes(line, place, b")\n")
 }
 
 // The numbers that a report is told by.
@@ -56,49 +47,61 @@ fn numbers_of(report: Report) -> [u64; 6]
 }
 
 // The letter that stands in a refusal's answer.
-fn refused_letter(letter: Option<Letter>, refusal: Refusal) -> char
-    ensures letter { result ≡ refused_letter letter refusal }
-    ensures plain { result < 128 }
+fn refused_letter(letter: Option<Letter>, refusal: Refusal) -> u8
+    ensures { result ≡ refused_letter letter refusal }
 {
     if matches!(refusal, Refusal::NoCommand | Refusal::LineTooLong) {
-        return '?';
+        return b'?';
     }
     match letter {
-        Some(letter) => char::from(letter.byte()),
-        None => '?',
+        Some(letter) => letter.byte(),
+        None => b'?',
     }
 }
 
-// The line for a refusal.
-fn refused(letter: Option<Letter>, refusal: Refusal) -> ArrayString<LINE_ROOM>
-    ensures { result.bytes ≡ answer_line false (refused_letter letter refusal) (refusal_number refusal ∷ besides refusal) }
+// Puts the line for a refusal.
+fn put_refusal(line: &mut [u8], letter: u8, refusal: Refusal) -> usize
+    requires { length line.old ≡ 160 }
+    ensures put { take result line.new ≡ answer_line false letter (refusal_number refusal ∷ besides refusal) }
+    ensures length { length line.new ≡ 160 }
+    ensures within { result ≤ 160 }
 {
-    let letter = refused_letter(letter, refusal);
     let number = u64::from(refusal.number());
     match refusal {
         Refusal::Fault(fault) => {
             // `u64::try_from` of a `usize` would have a failure that cannot come.
             let place = fault.place() as u64;
-            line("(no ", letter, &[number, u64::from(fault.number()), place])
+            let numbers = [number, u64::from(fault.number()), place];
+            put_line(line, false, letter, &numbers)
         }
-        _ => line("(no ", letter, &[number]),
+        _ => put_line(line, false, letter, &[number]),
     }
 }
 
-// The first line of an answer.
-fn head(answer: Answer, text: &[u8]) -> ArrayString<LINE_ROOM>
-    ensures { result.bytes ≡ head answer text.now }
+// Puts the first line of an answer, and answers its length.
+fn put_head(line: &mut [u8], answer: Answer, text: &[u8]) -> usize
+    requires { length line.old ≡ 160 }
+    ensures put { take result line.new ≡ head answer text.now }
+    ensures length { length line.new ≡ 160 }
+    ensures within { result ≤ 160 }
 {
     match answer {
-        Answer::Loaded(report) => accepted(Letter::Load, &numbers_of(report)),
-        Answer::Spliced(report) => accepted(Letter::Splice, &numbers_of(report)),
-        Answer::Forked => accepted(Letter::Fork, &[]),
-        Answer::Undone(report) => accepted(Letter::Undo, &numbers_of(report)),
-        Answer::Released(report) => accepted(Letter::Release, &numbers_of(report)),
+        Answer::Loaded(report) => put_line(line, true, Letter::Load.byte(), &numbers_of(report)),
+        Answer::Spliced(report) => put_line(line, true, Letter::Splice.byte(), &numbers_of(report)),
+        Answer::Forked => put_line(line, true, Letter::Fork.byte(), &[]),
+        Answer::Undone(report) => put_line(line, true, Letter::Undo.byte(), &numbers_of(report)),
+        Answer::Released(report) => put_line(
+            line,
+            true,
+            Letter::Release.byte(),
+            &numbers_of(report),
+        ),
         // As with a place, `u64::try_from` would have a failure that cannot come.
-        Answer::Printed => accepted(Letter::Print, &[text.len() as u64]),
-        Answer::Compared(same) => accepted(Letter::Same, &[u64::from(same)]),
-        Answer::Refused { letter, refusal } => refused(letter, refusal),
+        Answer::Printed => put_line(line, true, Letter::Print.byte(), &[text.len() as u64]),
+        Answer::Compared(same) => put_line(line, true, Letter::Same.byte(), &[u64::from(same)]),
+        Answer::Refused { letter, refusal } => {
+            put_refusal(line, refused_letter(letter, refusal), refusal)
+        }
     }
 }
 
@@ -133,9 +136,10 @@ fn write_text(buffer: &mut [u8], line: &[u8], text: &[u8]) -> Result<usize, Refu
 pub fn write_answer(buffer: &mut [u8], answer: Answer, text: &[u8]) -> Result<usize, Refusal>
     ensures { Answered (answer_bytes answer text.now) buffer.old result buffer.new }
 {
-    let line = head(answer, text);
+    let mut line = [0; LINE_ROOM];
+    let size = put_head(&mut line, answer, text);
     match answer {
-        Answer::Printed => write_text(buffer, line.as_bytes(), text),
-        _ => write_bytes(buffer, line.as_bytes()),
+        Answer::Printed => write_text(buffer, &line[0..size], text),
+        _ => write_bytes(buffer, &line[0..size]),
     }
 }

@@ -1,6 +1,7 @@
 pub mod Counting
 pub mod Joining
 pub mod Lexing
+pub mod Lines
 pub mod Longest
 pub mod Onward
 pub mod Stacks

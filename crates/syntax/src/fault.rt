@@ -4,6 +4,7 @@ ghost use Rattle.syntax.specs.declared.fault.ReadFault.TheVariants.{Token as of_
 ghost use Rattle.syntax.specs.Faults.{token_number, bracket_number, layer_of, number_of, place_of};
 
 use crate::kind::Kind;
+use std::fmt;
 
 /// What is wrong with a token.
 #[derive(Clone, Copy, PartialEq, Eq, Debug)]
@@ -17,10 +18,33 @@ pub enum TokenFaultKind {
 }
 
 /// A fault of one layer; the place is the number of bytes before it.
-#[derive(Clone, Copy, PartialEq, Eq, Debug)]
+#[derive(Clone, Copy, PartialEq, Eq)]
 pub struct Fault<K> {
     pub kind: K,
     pub place: usize,
+}
+
+/// What is wrong in one layer, and what `{:?}` calls a fault of that layer.
+pub trait FaultKind {
+    const FAULT: &'static str;
+}
+
+impl FaultKind for TokenFaultKind {
+    const FAULT: &'static str = "TokenFault";
+}
+
+impl FaultKind for BracketFaultKind {
+    const FAULT: &'static str = "BracketFault";
+}
+
+// By hand, since the derive would call a fault of either layer by the one name `Fault`.
+impl<K: FaultKind + fmt::Debug> fmt::Debug for Fault<K> {
+    fn fmt<W: fmt::Write>(&self, f: &mut fmt::Formatter<W>) -> fmt::Result {
+        f.debug_struct(K::FAULT)
+            .field("kind", &self.kind)
+            .field("place", &self.place)
+            .finish()
+    }
 }
 
 /// A fault of the token layer.

@@ -7,19 +7,26 @@ use crate::class::Class;
 /// What a token is.
 #[derive(Clone, Copy, PartialEq, Eq, Debug)]
 pub enum Kind {
-    LineEnd = 1,
-    Blank = 2,
-    Word = 3,
-    Quoted = 4,
-    Comment = 5,
+    LineEnd,
+    Blank,
+    Word,
+    Quoted,
+    Comment,
 }
 
 impl Kind {
-    /// The number by which formats name the kind: its discriminant.
+    /// The number by which formats name the kind.
+    // Not its discriminant: a cast of the enum gives its place in the list, from 0.
     pub fn number(self) -> u8
         ensures { result ≡ number_of self }
     {
-        self as u8
+        match self {
+            Kind::LineEnd => 1,
+            Kind::Blank => 2,
+            Kind::Word => 3,
+            Kind::Quoted => 4,
+            Kind::Comment => 5,
+        }
     }
 
     /// Whether a byte of this class goes on with a token of this kind.

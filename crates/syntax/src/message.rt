@@ -1,5 +1,5 @@
 // The words in which kinds and faults are told to people.
-ghost use Rattle.std.specs.Prelude.{Some};
+ghost use Rattle.std.specs.Prelude.{◌≡◌, Some};
 ghost use Rattle.syntax.specs.Messages.{kind_words, item_words, token_fault_words, bracket_fault_words, layer_words, fault_words, position_words};
 
 use crate::fault::{BracketFaultKind, Layer, ReadFault, TokenFaultKind};
@@ -7,17 +7,26 @@ use crate::kind::{ItemKind, Kind};
 use crate::position::Position;
 use std::fmt;
 
-impl fmt::Display for Kind {
-    ghost output = { λ k. Some (kind_words k) };
-
-    fn fmt<W: fmt::Write>(&self, f: &mut fmt::Formatter<W>) -> fmt::Result {
-        f.write_str(match self {
+impl Kind {
+    /// What a token of the kind is called.
+    pub fn words(self) -> &'static str
+        ensures { result.now ≡ kind_words self }
+    {
+        match self {
             Kind::LineEnd => "line end",
             Kind::Blank => "blank",
             Kind::Word => "word",
             Kind::Quoted => "quoted text",
             Kind::Comment => "comment",
-        })
+        }
+    }
+}
+
+impl fmt::Display for Kind {
+    ghost output = { λ k. Some (kind_words k) };
+
+    fn fmt<W: fmt::Write>(&self, f: &mut fmt::Formatter<W>) -> fmt::Result {
+        f.write_str(self.words())
     }
 }
 
@@ -44,15 +53,36 @@ impl fmt::Display for TokenFaultKind {
     }
 }
 
+impl BracketFaultKind {
+    /// What is wrong.
+    pub fn words(self) -> &'static str
+        ensures { result.now ≡ bracket_fault_words self }
+    {
+        match self {
+            BracketFaultKind::UnmatchedClose => "closing bracket has no open form",
+            BracketFaultKind::UnclosedForm => "form is not closed",
+            BracketFaultKind::TooDeep => "more than 16 forms are open",
+        }
+    }
+}
+
 impl fmt::Display for BracketFaultKind {
     ghost output = { λ k. Some (bracket_fault_words k) };
 
     fn fmt<W: fmt::Write>(&self, f: &mut fmt::Formatter<W>) -> fmt::Result {
-        f.write_str(match self {
-            BracketFaultKind::UnmatchedClose => "closing bracket has no open form",
-            BracketFaultKind::UnclosedForm => "form is not closed",
-            BracketFaultKind::TooDeep => "more than 16 forms are open",
-        })
+        f.write_str(self.words())
+    }
+}
+
+impl Layer {
+    /// What a fault of the layer is called.
+    pub fn words(self) -> &'static str
+        ensures { result.now ≡ layer_words self }
+    {
+        match self {
+            Layer::Token => "token fault",
+            Layer::Bracket => "bracket fault",
+        }
     }
 }
 
@@ -60,10 +90,7 @@ impl fmt::Display for Layer {
     ghost output = { λ l. Some (layer_words l) };
 
     fn fmt<W: fmt::Write>(&self, f: &mut fmt::Formatter<W>) -> fmt::Result {
-        f.write_str(match self {
-            Layer::Token => "token fault",
-            Layer::Bracket => "bracket fault",
-        })
+        f.write_str(self.words())
     }
 }
 

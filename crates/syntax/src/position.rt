@@ -1,5 +1,5 @@
 // Where a place is in a text, as editors count: lines and columns, both from 1.
-ghost use Rattle.std.specs.Prelude.{◌≡◌, ◌≤◌, length};
+ghost use Rattle.std.specs.Prelude.{◌≡◌, ◌+◌, ◌≤◌, length};
 ghost use Rattle.syntax.specs.Positions.{ends_line, line_ends, unfinished, position, lines};
 
 use crate::class::{Class, class_of};
@@ -31,11 +31,14 @@ pub fn locate(text: &[u8], place: usize) -> Option<Position>
 pub fn count_lines(text: &[u8]) -> usize
     ensures { result ≡ lines text.now }
 {
-    line_ends(text) + usize::from(unfinished(text) > 0)
+    let is_unfinished = text.last().is_some_and(|byte| !ends_line(*byte));
+    line_ends(text) + usize::from(is_unfinished)
 }
 
+#[tactic(auto, using(crate::proofs::Lines::line_ends_and_unfinished))]
 fn line_ends(bytes: &[u8]) -> usize
-    ensures { result ≡ line_ends bytes.now }
+    ensures value { result ≡ line_ends bytes.now }
+    ensures within { result + unfinished bytes.now ≤ length bytes.now }
 {
     bytes.iter().filter(|byte| ends_line(**byte)).count()
 }

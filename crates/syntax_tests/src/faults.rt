@@ -103,3 +103,17 @@ fn the_first_fault_counts(rt: HostRuntime) {
     assert_eq!(rt; first_fault(b"\x00)"), Some((1, 0)));
     assert_eq!(rt; first_fault(b"(\""), Some((2, 1)));
 }
+
+#[test]
+fn a_fault_is_shown_by_the_name_of_its_layer(rt: HostRuntime) {
+    let shown = format!(in rt.alloc(); "{:?}", take_census(b"\x00").err());
+    assert!(rt;
+        shown.is_ok_and(|text| text.as_str()
+            == "Some(Token(TokenFault { kind: ForeignByte, place: 0 }))")
+    );
+    let shown = format!(in rt.alloc(); "{:?}", take_census(b"a)").err());
+    assert!(rt;
+        shown.is_ok_and(|text| text.as_str()
+            == "Some(Bracket(BracketFault { kind: UnmatchedClose, place: 1 }))")
+    );
+}

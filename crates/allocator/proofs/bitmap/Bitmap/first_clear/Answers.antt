@@ -1,8 +1,12 @@
 use Rattle.std.proofs.Common.{◌≡◌, ◌+◌, ◌*◌, ◌/◌, max, length, drop, sym, ap, ◌∙◌, arith}
 use Rattle.allocator.specs.Allocations.{first_clear}
 use Rattle.allocator.proofs.Packed.{length_bits}
-use Rattle.allocator.proofs.Searching.{first_clear_end}
+use Rattle.allocator.proofs.Searching.{first_clear_here, first_clear_end}
 use Rattle.allocator.proofs.bitmap.Bitmap.first_clear.Goals as goal
+
+pub returns-then-not-get : goal.returns-then-not-get
+returns-then-not-get c =
+    sym (first_clear_here c.args.self.now c.args.from (omega (arith, c.if-from-self.true, length_bits c.self.inside.words c.self.inside.capacity, ap length c.self.view_is)) (sym c.get.ensures ∙ c.if-not-get.true))
 
 pub loop-word-init : goal.loop-word-init
 loop-word-init c =
