@@ -65,7 +65,7 @@ pub fn outline(heap: Global, text: &[u8]) -> Result<String, OutlineFault>
     }
 }
 
-// No line has more bytes: the indent of sixteen forms, the longest words, three numbers' digits, and a token's 32 bytes by two.
+// No line has more bytes: the indent of sixteen forms, the longest words, two numbers, and a token's 32 bytes by two.
 const LINE_ROOM: usize = 128;
 
 // Makes room for one more line. Where there is none, there will be a sixteenth more than there was: the text alone would double its
